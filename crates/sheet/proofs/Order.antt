@@ -1,0 +1,68 @@
+-- Laws of the first refusal among places in order: at 0, at one place more, and at the place that refuses.
+use Prim.Native.Nat.{ℕ, zero, suc, _+_, _<_, _≤_}
+use mathlib.Core.Path.{_≡_, refl, sym, ap, _∙_, subst}
+use native.Mathlib.Nat.{not-suc-le-zero}
+use native.Mathlib.Numerals.{add-one}
+use native.Mathlib.Decide.{decLt}
+use native.Mathlib.Omega.{arith}
+use Rattle.sheet.specs.Refusals.{refusalSays, outcomeSays}
+use Rattle.sheet.specs.declared.Refusal.{Refusal}
+use Rattle.sheet.specs.declared.Refusal.the-variants.{Short, Mark, Counts, Layout, Window, Work}
+use Rattle.sheet.specs.declared.Outcome.{Outcome}
+use Rattle.sheet.specs.declared.Outcome.the-variants.{Accepted, Refused}
+use Rattle.sheet.specs.Paper.{Paper, Check, gives, refuses, refusesAt, _else_, inOrder}
+
+-- an answer that refuses
+abbrev pub Refuses : Check → Type 0
+Refuses (gives x) = ⊥
+Refuses (refuses n) = Unit {0}
+Refuses (refusesAt n place) = Unit {0}
+
+pub else-stays : (a b : Check) → Refuses a → a else b ≡ a
+else-stays (gives x) b r = absurd r
+else-stays (refuses n) b r = refl
+else-stays (refusesAt n place) b r = refl
+
+pub else-goes-on : {A : Type 0} (a : Check) (b : Paper A) → a ≡ gives tt → a else b ≡ b
+else-goes-on a b e = ap (λ (x : Check). x else b) e
+
+pub in-order-none : (f : ℕ → Check) → inOrder f 0 ≡ gives tt
+unfolding inOrder
+in-order-none f = refl
+
+pub in-order-more : (f : ℕ → Check) (n : ℕ) → inOrder f (n + 1) ≡ inOrder f n else f n
+unfolding inOrder
+in-order-more f n = ap (inOrder f) (add-one n)
+
+pub in-order-clear : (f : ℕ → Check) (n : ℕ) → inOrder f n ≡ gives tt → f n ≡ gives tt → inOrder f (n + 1) ≡ gives tt
+in-order-clear f n e h = in-order-more f n ∙ else-goes-on (inOrder f n) (f n) e ∙ h
+
+-- where the places before i refuse nothing and i refuses, i's refusal is the answer for any more places
+pub in-order-first : (f : ℕ → Check) (i n : ℕ) → i < n → inOrder f i ≡ gives tt → Refuses (f i) → inOrder f n ≡ f i
+unfolding inOrder
+in-order-first f i zero h e r = absurd (not-suc-le-zero h)
+in-order-first f i (suc n) h e r =
+    elim (decLt i n) [
+      | yes l ↦
+          let ih : inOrder f n ≡ f i = in-order-first f i n l e r in
+          ap (λ (x : Check). x else f n) ih ∙ else-stays (f i) (f n) r
+      | no l ↦
+          let same : i ≡ n = omega arith in
+          ap (λ (x : Check). x else f n) (subst (λ (k : ℕ). inOrder f k ≡ gives tt) same e) ∙ ap f (sym same)
+    ]
+
+refusal-refuses : (r : Refusal) → Refuses (refusalSays r)
+refusal-refuses Short = tt
+refusal-refuses Mark = tt
+refusal-refuses Counts = tt
+refusal-refuses Layout = tt
+refusal-refuses (Window k) = tt
+refusal-refuses (Work k) = tt
+
+-- what an outcome that is a refusal says, refuses
+pub says-refuses : (o : Outcome) (r : Refusal) (x : Check) → o ≡ Refused r → outcomeSays o ≡ x → Refuses x
+says-refuses o r x e h = subst Refuses (sym (ap outcomeSays e) ∙ h) (refusal-refuses r)
+
+-- and of one that is accepted, accepts
+pub says-gives : (o : Outcome) (x : Check) → o ≡ Accepted → outcomeSays o ≡ x → x ≡ gives tt
+says-gives o x e h = sym h ∙ ap outcomeSays e

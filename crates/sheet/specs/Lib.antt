@@ -1,0 +1,4 @@
+pub mod Paper
+pub mod Refusals
+pub mod Sheet
+pub mod Table
