@@ -1,14 +1,14 @@
 -- "Refusal numbers": the number of each refusal of a sheet or a table, and the order in which they are given.
 use Prim.Native.Nat.{ℕ}
 use mathlib.Core.Bool.{Bool}
-use Rattle.sheet.specs.Paper.{Check, gives, refuses, refusesAt, _given-when_, givenAt, _else_, inOrder}
+use Rattle.sheet.specs.Paper.{Paper, Check, gives, refuses, refusesAt, _given-when_, givenAt, _else_, inOrder}
 use Rattle.sheet.specs.declared.Refusal.{Refusal}
 use Rattle.sheet.specs.declared.Refusal.the-variants.{Short, Mark, Counts, Layout, Window, Work}
 use Rattle.sheet.specs.declared.Outcome.{Outcome}
 use Rattle.sheet.specs.declared.Outcome.the-variants.{Accepted, Refused}
 
 -- a refusal as the paper writes it
-abbrev pub refusalSays : Refusal → Check
+abbrev pub refusalSays : {A : Type 0} → Refusal → Paper A
 refusalSays Short = refuses 1
 refusalSays Mark = refuses 2
 refusalSays Counts = refuses 3

@@ -25,6 +25,10 @@ noJob = record { release = 0; deadline = 0; wanted = 0; energy = 0 }
 abbrev pub jobOf : Table → ℕ → Job
 jobOf t k = getD (t .jobs) k noJob
 
+-- what a slot's harvest byte counts for
+abbrev pub countedAs : ℕ → ℕ
+countedAs byte = byte
+
 -- 3: more than 64 jobs, or slots 0 or above 1,440
 unfoldable pub countsFault : ℕ → ℕ → Bool
 countsFault jobs slots = ltb mostJobs jobs || eqb slots 0 || ltb mostSlots slots

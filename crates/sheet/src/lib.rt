@@ -3,7 +3,7 @@
 ghost use mathlib.Core.Path.{_≡_};
 ghost use Prim.Native.Nat.{_≤_};
 ghost use Rattle.sheet.specs.Refusals.{outcomeSays, refusalNumber};
-ghost use Rattle.sheet.specs.Table.{mostJobs, countsFault, windowFault, workFault, recordSays, recordsSay, tableSays};
+ghost use Rattle.sheet.specs.Table.{mostJobs, countedAs, countsFault, windowFault, workFault, recordSays, recordsSay, tableSays};
 
 // The limits of document 01.
 pub const MOST_JOBS: usize = 64;
@@ -48,6 +48,13 @@ pub enum Refusal {
 pub enum Outcome {
     Accepted,
     Refused(Refusal),
+}
+
+// What a slot's harvest byte counts for, wherever a slot's harvest is used.
+pub fn counted(byte: u8) -> u16
+    ensures { λ r. ⌜ r ≡ countedAs byte ⌝ }
+{
+    byte as u16
 }
 
 // 3 applies: more than 64 jobs, or slots 0 or above 1,440.
