@@ -1,3 +1,4 @@
+pub mod Lists
 pub mod Order
 pub mod Tests
 pub mod Words

@@ -1,3 +1,4 @@
+pub mod Lists
 pub mod Paper
 pub mod Refusals
 pub mod Sheet

@@ -1,7 +1,6 @@
 -- Answers as document 01 writes them: what is given, or a refusal by its number, with the place where the paper names one.
 use Prim.Native.Nat.{ℕ, zero, suc}
 use mathlib.Core.Bool.{Bool, true, false}
-use mathlib.Core.List.{List, [], _++_}
 
 pub data Paper (A : Type 0) : Type 0 where
   gives : A → Paper A
@@ -40,8 +39,3 @@ abbrev pub whereGiven {ℓ} : {A : Type 0} {X : Type ℓ} → Paper A → X → 
 whereGiven (gives given) x y = x
 whereGiven (refuses n) x y = y
 whereGiven (refusesAt n place) x y = y
-
--- what the places 0 to n - 1 hold, one after the other
-unfoldable pub joined : {X : Type 0} → (ℕ → List X) → ℕ → List X
-joined f zero = []
-joined f (suc n) = joined f n ++ f n

@@ -4,7 +4,8 @@ use mathlib.Core.List.{List, [], _∷_, _++_}
 use mathlib.Core.Bool.{Bool, not, _&&_}
 use lib.Dec.{ltb, eqb}
 use lib.ListN.{length, getD, take, drop, replicate}
-use Rattle.sheet.specs.Paper.{Paper, Check, gives, _given-when_, _else_, whereGiven, joined}
+use Rattle.sheet.specs.Paper.{Paper, Check, gives, _given-when_, _else_, whereGiven}
+use Rattle.sheet.specs.Lists.{joined, filled}
 use Rattle.sheet.specs.Refusals.{Faults, inTurn}
 use Rattle.sheet.specs.Table.{mostJobs, noJob, jobOf, countsFault, windowFault, workFault, tableSays}
 use Rattle.sheet.specs.declared.Job.{Job}
