@@ -1,6 +1,7 @@
 -- Laws of the first refusal among places in order: at 0, at one place more, and at the place that refuses.
 use Prim.Native.Nat.{ℕ, zero, suc, _+_, _<_, _≤_}
 use mathlib.Core.Path.{_≡_, refl, sym, ap, _∙_, subst}
+use mathlib.Core.Logic.{_⊎_, inl, inr}
 use native.Mathlib.Nat.{not-suc-le-zero}
 use native.Mathlib.Numerals.{add-one}
 use native.Mathlib.Decide.{decLt}
@@ -17,6 +18,11 @@ abbrev pub Refuses : Check → Type 0
 Refuses (gives x) = ⊥
 Refuses (refuses n) = Unit {0}
 Refuses (refusesAt n place) = Unit {0}
+
+pub gives-or-refuses : (a : Check) → (a ≡ gives tt) ⊎ Refuses a
+gives-or-refuses (gives x) = inl refl
+gives-or-refuses (refuses n) = inr tt
+gives-or-refuses (refusesAt n place) = inr tt
 
 pub else-stays : (a b : Check) → Refuses a → a else b ≡ a
 else-stays (gives x) b r = absurd r

@@ -3,3 +3,4 @@ pub mod Paper
 pub mod Refusals
 pub mod Sheet
 pub mod Table
+pub mod WellFormed

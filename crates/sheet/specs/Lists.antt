@@ -10,5 +10,4 @@ joined f (suc n) = joined f n ++ f n
 
 -- so many places: the first n hold f 0 to f (n - 1), and the others z
 unfoldable pub filled : {X : Type 0} → (ℕ → X) → X → ℕ → ℕ → List X
-unfolding joined
 filled f z places n = joined (λ k. f k ∷ []) n ++ replicate (places - n) z

@@ -88,7 +88,7 @@ lastByteIn s k = getD s (recordLength * k + 7) 0
 unfoldable pub tableIn : List ℕ → Table
 tableIn s =
     record {
-      jobs = joined (λ k. jobIn s k ∷ []) (jobsIn s) ++ replicate (mostJobs - jobsIn s) noJob;
+      jobs = filled (jobIn s) noJob mostJobs (jobsIn s);
       count = jobsIn s;
       slots = slotsIn s;
       capacity = capacityIn s;
@@ -136,12 +136,10 @@ noTable = record { jobs = replicate mostJobs noJob; count = 0; slots = 0; capaci
 
 -- the table of an accepted sheet; of a refused one, no jobs, slots 0, capacity 0
 unfoldable pub tableRead : List ℕ → Table
-unfolding sheetSays tableIn
 tableRead s = whereGiven (sheetSays s) (tableIn s) noTable
 
 -- the harvest of an accepted sheet, that stretch of the sheet; of a refused one an empty stretch
 unfoldable pub harvestRead : List ℕ → List ℕ
-unfolding sheetSays harvestIn
 harvestRead s = whereGiven (sheetSays s) (harvestIn s) []
 
 -- ---- what the writer leaves

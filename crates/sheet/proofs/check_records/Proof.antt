@@ -1,3 +1,4 @@
+-- The loop keeps: no record before k refuses. The first that does is the answer.
 use Prim.Native.Nat.{ℕ, _≤_, _-_}
 use native.Mathlib.Omega.{arith}
 use mathlib.Core.Path.{_≡_, refl, sym, subst, _∙_}
@@ -7,9 +8,6 @@ use Rattle.sheet.specs.Table.{tableRecordSays, recordsSay}
 use borrow.Author.Needs.{needs}
 use Rattle.sheet.proofs.check_records.Statement.{statement}
 use Rattle.sheet.proofs.check_records.Tie as tie
-use Rattle.sheet.proofs.check_records.Reads as reads
-use Rattle.sheet.proofs.check_records.Lts as lts
-use Rattle.sheet.proofs.check_record.Reads as check-record-reads
 
 abbrev Inv-loop : tie.InvT-loop
 Inv-loop t count slots k₀ k = (count ≡ t .count) × (slots ≡ t .slots) × (k ≤ count) × (inOrder (tableRecordSays t) k ≡ gives tt)
@@ -17,27 +15,21 @@ Inv-loop t count slots k₀ k = (count ≡ t .count) × (slots ≡ t .slots) × 
 abbrev μ-loop : tie.MeasureT-loop
 μ-loop t count slots k₀ k = count - k
 
--- src/lib.rt:112:5
 loop-holds : tie.Need-loop-holds Inv-loop μ-loop
 loop-holds c = (refl, refl, search needs, in-order-none _)
 
--- src/lib.rt:113:17
 mul-j : tie.Need-mul-j Inv-loop μ-loop
 mul-j c = search needs
 
--- src/lib.rt:113:17
 element-copy-out-j : tie.Need-element-copy-out-j Inv-loop μ-loop
 element-copy-out-j c = search needs
 
--- src/lib.rt:114:13
 check-record-requires : tie.Need-check-record-requires Inv-loop μ-loop
 check-record-requires c κs = search needs
 
--- src/lib.rt:116:13
 enum-told : tie.Need-enum-told Inv-loop μ-loop
 enum-told c = search needs
 
--- src/lib.rt:116:13
 returns : tie.Need-returns Inv-loop μ-loop
 unfolding recordsSay
 returns c =
@@ -52,15 +44,12 @@ returns c =
 enum-told-2 : tie.Need-enum-told-2 Inv-loop μ-loop
 enum-told-2 c = search needs
 
--- src/lib.rt:118:9
 add-k : tie.Need-add-k Inv-loop μ-loop
 add-k c = search needs
 
--- src/lib.rt:112:5
 loop-less : tie.Need-loop-less Inv-loop μ-loop
 loop-less c = search needs
 
--- src/lib.rt:112:5
 loop-again : tie.Need-loop-again Inv-loop μ-loop
 loop-again c =
     let at-loop = c .before .before .before .before .before in (
@@ -71,7 +60,6 @@ loop-again c =
           (says-gives _ _ (c .enum-told2 .given .1) (c .before .before .check-record .ensures)),
     )
 
--- src/lib.rt:105:1
 returns-2 : tie.Need-returns-2 Inv-loop μ-loop
 unfolding recordsSay
 returns-2 c =

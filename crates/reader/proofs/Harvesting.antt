@@ -1,0 +1,33 @@
+-- The stretch behind a sheet's own records is its harvest, and an empty one where the sheet is refused.
+use Prim.Native.Nat.{ℕ, _+_, _*_}
+use mathlib.Core.Path.{_≡_, refl, sym, ap, _∙_}
+use mathlib.Core.List.{List, []}
+use mathlib.Core.Logic.{⊎-elim}
+use native.Mathlib.Omega.{arith}
+use lib.ListN.{length}
+use borrow.Author.Tests.{le-leb}
+use Rattle.sheet.specs.Paper.{gives}
+use Rattle.sheet.specs.Sheet.{recordLength, sheetSays, tableIn, tableRead, noTable, harvestIn, harvestRead, jobsIn, slotsIn}
+use Rattle.sheet.specs.declared.Table.{Table}
+use Rattle.sheet.proofs.Order.{Refuses, gives-or-refuses}
+use Rattle.sheet.proofs.Reading.{table-given, table-refused, harvest-given, harvest-refused}
+use Rattle.sheet.proofs.Theorems.{sheet-accepted-exactly}
+use Rattle.reader.specs.Promise.{harvestBehind}
+
+of-table : List ℕ → Table → List ℕ
+of-table s t = harvestBehind s (t .count) (t .slots)
+
+given : (s : List ℕ) → sheetSays s ≡ gives tt → harvestBehind s (tableRead s .count) (tableRead s .slots) ≡ harvestRead s
+unfolding of-table harvestBehind harvestIn tableIn
+given s e =
+    let good = sheet-accepted-exactly s .0 e in
+    let fits = good .length-fits in
+    ap (of-table s) (table-given s e)
+    ∙ rw (le-leb _ _ (good .good-table .few-jobs), le-leb (recordLength * jobsIn s + slotsIn s) (length s) (omega arith)) (sym (harvest-given s e))
+
+refused : (s : List ℕ) → Refuses (sheetSays s) → harvestBehind s (tableRead s .count) (tableRead s .slots) ≡ harvestRead s
+unfolding of-table harvestBehind
+refused s r = ap (of-table s) (table-refused s r) ∙ rw (le-leb 0 (length s) (omega arith)) (sym (harvest-refused s r))
+
+pub own-stretch : (s : List ℕ) → harvestBehind s (tableRead s .count) (tableRead s .slots) ≡ harvestRead s
+own-stretch s = ⊎-elim (given s) (refused s) (gives-or-refuses (sheetSays s))
