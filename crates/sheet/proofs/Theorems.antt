@@ -152,7 +152,7 @@ pub job-in-table : (s : List ℕ) (k : ℕ) → k < jobsIn s → jobOf (tableIn 
 unfolding tableIn
 job-in-table s k h = filled-get (jobIn s) noJob mostJobs (jobsIn s) k h
 
-harvest-length : (s : List ℕ) → length s ≡ sheetLength (jobsIn s) (slotsIn s) → length (harvestIn s) ≡ slotsIn s
+pub harvest-length : (s : List ℕ) → length s ≡ sheetLength (jobsIn s) (slotsIn s) → length (harvestIn s) ≡ slotsIn s
 unfolding harvestIn
 harvest-length s e = length-take-le (slotsIn s) (drop (recordLength * jobsIn s) s) (simp length-drop (omega arith))
 

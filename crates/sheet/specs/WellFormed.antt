@@ -40,6 +40,17 @@ pub record WellFormed (s : List ℕ) : Type 0 where
   pub zero-bytes : (k : ℕ) → k < jobsIn s → lastByteIn s k ≡ 0
   pub good-table : GoodTable (tableIn s) (harvestIn s)
 
+-- "A table is its jobs in order, its slots and its capacity; two are the same when these agree"
+pub record SameTable (t u : Table) : Type 0 where
+  pub as-many : t .count ≡ u .count
+  pub jobs : (k : ℕ) → k < t .count → jobOf t k ≡ jobOf u k
+  pub slots : t .slots ≡ u .slots
+  pub capacity : t .capacity ≡ u .capacity
+
+-- every element is a byte, as every element of a byte slice is
+abbrev pub Bytes : List ℕ → Type 0
+Bytes s = (i : ℕ) → getD s i 0 < 256
+
 -- ---- "Given when"
 
 -- 3: more than 64 jobs, or slots 0 or above 1,440
