@@ -1,0 +1,5 @@
+pub mod Accepted
+pub mod Laying
+pub mod Parts
+pub mod Promised
+pub mod Theorems
