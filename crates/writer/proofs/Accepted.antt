@@ -17,6 +17,7 @@ pub given-clear : (n : ℕ) (b : Bool) (rest : Check) → (n given-when b else r
 given-clear n true rest e = let z : _≡_ {A = ℕ} 0 1 = cc in absurd (omega arith)
 given-clear n false rest e = (refl, e)
 
+-- at most 64 jobs, at most 1,440 slots, and a harvest byte for each slot
 pub record Accepted (t : Table) (harvest : List ℕ) : Type 0 where
   pub jobs : t .count ≤ mostJobs
   pub slots : t .slots ≤ mostSlots

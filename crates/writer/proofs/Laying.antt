@@ -1,12 +1,12 @@
 -- Laws of bytes laid at a place: none, one run behind another, one byte or one record more, and a run laid at the front.
 use Prim.Native.Nat.{ℕ, zero, suc, _+_, _*_, _≤_, _<_}
-use mathlib.Core.Path.{_≡_, refl, sym, ap, _∙_, subst}
+use mathlib.Core.Path.{_≡_, refl, sym, ap, _∙_}
 use mathlib.Core.List.{List, [], _∷_, _++_}
 use native.Mathlib.Nat.{zero-add}
 use native.Mathlib.Numerals.{add-one}
 use native.Mathlib.Omega.{arith}
 use lib.ListN.{length, getD, set, take, drop, length-append}
-use lib.Seq.{sets, sets-eq, length-sets, length-take-le, take-suc}
+use lib.Seq.{sets, sets-eq, length-take-le, take-suc}
 use Rattle.sheet.specs.Paper.{joined}
 use Rattle.writer.specs.Laid.{Laid}
 
@@ -24,9 +24,6 @@ laid-none l at = record { stored = refl }
 pub laid-next : {l m n xs ys : List ℕ} {i j : ℕ} → Laid l i xs m → Laid m j ys n → j ≡ i + length xs → Laid l i (xs ++ ys) n
 laid-next {l} {m} {n} {xs} {ys} {i} {j} a b e =
     record { stored = b .stored ∙ ap (λ (k : List ℕ). sets k j ys) (a .stored) ∙ sets-append xs ys l i j e }
-
-pub laid-length : {l m xs : List ℕ} {i : ℕ} → Laid l i xs m → length m ≡ length l
-laid-length {l} {m} {xs} {i} a = ap length (a .stored) ∙ length-sets l i xs
 
 -- one byte more of a run that is copied byte by byte
 pub laid-byte : {l m : List ℕ} {at : ℕ} (bytes : List ℕ) (i : ℕ) → Laid l at (take i bytes) m → i < length bytes

@@ -1,7 +1,7 @@
 -- The parts of a day sheet: how long each is, and how it is laid two bytes at a time.
-use Prim.Native.Nat.{ℕ, _+_, _*_}
+use Prim.Native.Nat.{ℕ, _+_, _-_, _*_}
 use mathlib.Core.Path.{_≡_, refl}
-use mathlib.Core.List.{List, [], _∷_, _++_}
+use mathlib.Core.List.{List, [], _∷_}
 use native.Mathlib.Omega.{arith}
 use lib.ListN.{length, length-append}
 use Rattle.sheet.specs.Paper.{joined}
@@ -68,12 +68,14 @@ pub records-laid : {l m n : List ℕ} (t : Table) (k : ℕ)
 records-laid t k before this =
     laid-record (λ n. recordBytes (jobOf t n)) recordLength (λ n. record-length (jobOf t n)) k before this
 
-pub sheet-laid : {l a b n : List ℕ} (t : Table) (harvest : List ℕ)
+pub sheet-laid : {l a b n : List ℕ} (t : Table) (harvest : List ℕ) (end : ℕ)
+    → end ≡ sheetLength (t .count) (t .slots)
+    → length harvest ≡ t .slots
     → Laid l 0 (recordsOf t (t .count)) a
     → Laid a (recordLength * t .count) harvest b
-    → Laid b (recordLength * t .count + length harvest) (trailerBytes t) n
+    → Laid b (end - trailerLength) (trailerBytes t) n
     → Laid l 0 (sheetBytes t harvest) n
 unfolding sheetBytes
-sheet-laid t harvest records middle trailer =
+sheet-laid t harvest end place bytes records middle trailer =
     laid-next (laid-next records middle (omega (arith, records-length t (t .count)))) trailer
     (omega (arith, records-length t (t .count), length-append (recordsOf t (t .count)) harvest))

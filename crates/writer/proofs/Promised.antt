@@ -4,17 +4,21 @@ use mathlib.Core.Path.{_≡_, refl, sym, ap, _∙_}
 use mathlib.Core.List.{List}
 use lib.ListN.{length}
 use borrow.Author.Tests.{lt-ltb, le-ltb}
-use Rattle.sheet.specs.Paper.{Paper, Check, gives, _else_, whereGiven}
-use Rattle.sheet.specs.Refusals.{refusalSays}
+use Rattle.sheet.specs.Paper.{Paper, _else_, whereGiven}
+use Rattle.sheet.specs.Refusals.{refusalSays, outcomeSays}
 use Rattle.sheet.specs.Table.{tableSays}
 use Rattle.sheet.specs.Sheet.{sheetBytes, sheetLength, writeSays, bufferWritten}
 use Rattle.sheet.specs.declared.Refusal.{Refusal}
 use Rattle.sheet.specs.declared.Refusal.the-variants.{Short, Mark, Counts, Layout, Window, Work}
+use Rattle.sheet.specs.declared.Outcome.{Outcome}
+use Rattle.sheet.specs.declared.Outcome.the-variants.{Accepted, Refused}
 use Rattle.sheet.specs.declared.Table.{Table}
-use Rattle.writer.specs.declared.Written.the-variants.{Length, Refused, NoRoom}
+use Rattle.sheet.proofs.Order.{says-gives}
+use Rattle.writer.specs.declared.Written.the-variants as Written
+use Rattle.writer.specs.declared.Written.the-variants.{Length, NoRoom}
 use Rattle.writer.specs.Laid.{Laid}
 use Rattle.writer.specs.Promise.{Writes}
-use Rattle.writer.proofs.Accepted.{Accepted, accepted}
+use Rattle.writer.proofs.Accepted.{accepted}
 use Rattle.writer.proofs.Laying.{laid-front}
 use Rattle.writer.proofs.Parts.{sheet-length}
 
@@ -37,22 +41,29 @@ refusal-gives-nothing (Window k) x y = refl
 refusal-gives-nothing (Work k) x y = refl
 
 module _ (t : Table) (harvest out : List ℕ) where
-  pub writes-refused : (r : Refusal) → refusalSays r ≡ tableSays t harvest → Writes t harvest out (Refused r) out
+  -- the table is refused: its refusal, and the buffer as it was
+  pub writes-refused : (o : Outcome) (r : Refusal) → o ≡ Refused r → outcomeSays o ≡ tableSays t harvest → Writes t harvest out (Written.Refused r) out
   unfolding writeSays bufferWritten
-  writes-refused r e =
-      let says : writeSays t harvest out ≡ refusalSays r = rw (sym e) (refusal-stays r _) in
+  writes-refused o r told said =
+      let e : tableSays t harvest ≡ refusalSays r = sym said ∙ ap outcomeSays told in
+      let says : writeSays t harvest out ≡ refusalSays r = rw e (refusal-stays r _) in
       record { answer = sym says; buffer = rw says (sym (refusal-gives-nothing r _ out)) }
 
-  pub writes-no-room : tableSays t harvest ≡ gives tt → length out < sheetLength (t .count) (t .slots) → Writes t harvest out NoRoom out
+  -- the buffer is too short: 8, and the buffer as it was
+  pub writes-no-room : (o : Outcome) (n : ℕ) → o ≡ Accepted → outcomeSays o ≡ tableSays t harvest → n ≡ sheetLength (t .count) (t .slots)
+      → length out < n → Writes t harvest out NoRoom out
   unfolding writeSays bufferWritten
-  writes-no-room e h =
-      let test = lt-ltb _ _ h in
-      record { answer = rw (e, test); buffer = rw (e, test) }
+  writes-no-room o n told said same short =
+      let e = says-gives o _ told said in
+      let test = lt-ltb _ _ short in
+      record { answer = rw (e, ← same, test); buffer = rw (e, ← same, test) }
 
-  pub writes-length : (n : ℕ) (after : List ℕ) → tableSays t harvest ≡ gives tt → n ≡ sheetLength (t .count) (t .slots) → n ≤ length out
-      → Laid out 0 (sheetBytes t harvest) after → Writes t harvest out (Length n) after
+  -- the sheet is laid at the front: its length, and the bytes behind it as they were
+  pub writes-length : (o : Outcome) (n : ℕ) (after : List ℕ) → o ≡ Accepted → outcomeSays o ≡ tableSays t harvest
+      → n ≡ sheetLength (t .count) (t .slots) → n ≤ length out → Laid out 0 (sheetBytes t harvest) after → Writes t harvest out (Length n) after
   unfolding writeSays bufferWritten
-  writes-length n after e same room laid =
+  writes-length o n after told said same room laid =
+      let e = says-gives o _ told said in
       let test = le-ltb _ _ room in
       record {
         answer = rw (e, ← same, test);

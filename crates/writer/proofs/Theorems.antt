@@ -11,6 +11,7 @@ use Rattle.writer.specs.declared.Written.{Written}
 use Rattle.writer.specs.declared.Written.the-variants.{Length, Refused, NoRoom}
 use Rattle.writer.specs.Promise.{writtenSays, Writes}
 
+-- `pick b x y`: x where b holds, y otherwise
 abbrev pick : Bool → Written → Written → Written
 pick true this that = this
 pick false this that = that

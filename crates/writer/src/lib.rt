@@ -100,24 +100,24 @@ fn put_trailer(out: &mut [u8], at: usize, t: Table)
     put_pair(out, at + 10, MARK_FIRST, MARK_SECOND);
 }
 
-// Puts the whole sheet of an accepted table and its harvest at the front of a buffer that has room
-// for it: the records, the harvest, the trailer.
-fn put_sheet(out: &mut [u8], t: Table, harvest: &[u8])
-    requires { ⌜ (t .count ≤ mostJobs) × (t .slots ≤ mostSlots) × (length (now harvest) ≡ t .slots) × (sheetLength (t .count) (t .slots) ≤ length (now out)) ⌝ }
-    ensures { λ _. ⌜ Laid (now (out .entry)) 0 (sheetBytes t (now (harvest .entry))) (now (out .exit)) ⌝ }
-{
-    let records = RECORD_LENGTH * t.count;
-    put_records(out, t);
-    put_harvest(out, records, harvest);
-    put_trailer(out, records + harvest.len(), t);
-}
-
 // The length of a sheet of at most 64 jobs: slots + 8 × jobs + 12.
 fn sheet_length(count: usize, slots: u16) -> usize
     requires { ⌜ count ≤ mostJobs ⌝ }
     ensures { λ r. ⌜ r ≡ sheetLength count slots ⌝ }
 {
     slots as usize + RECORD_LENGTH * count + TRAILER_LENGTH
+}
+
+// Puts the whole sheet of an accepted table and its harvest at the front of a buffer, up to the
+// sheet's end: the records, the harvest, the trailer.
+fn put_sheet(out: &mut [u8], end: usize, t: Table, harvest: &[u8])
+    requires { ⌜ (t .count ≤ mostJobs) × (t .slots ≤ mostSlots) × (length (now harvest) ≡ t .slots) ⌝ }
+    requires { ⌜ (end ≡ sheetLength (t .count) (t .slots)) × (end ≤ length (now out)) ⌝ }
+    ensures { λ _. ⌜ Laid (now (out .entry)) 0 (sheetBytes t (now (harvest .entry))) (now (out .exit)) ⌝ }
+{
+    put_records(out, t);
+    put_harvest(out, RECORD_LENGTH * t.count, harvest);
+    put_trailer(out, end - TRAILER_LENGTH, t);
 }
 
 // Writes the sheet of a table and its harvest at the front of `out` and answers its length. The
@@ -135,6 +135,6 @@ pub fn write(t: Table, harvest: &[u8], out: &mut [u8]) -> Written
     if out.len() < length {
         return Written::NoRoom;
     }
-    put_sheet(out, t, harvest);
+    put_sheet(out, length, t, harvest);
     Written::Length(length)
 }

@@ -1,4 +1,4 @@
--- The two stores are the run of two bytes, as the definition stores it.
+-- The two stores are the run of two bytes.
 use native.Mathlib.Numerals.{add-one}
 use native.Mathlib.Omega.{arith}
 use lib.ListN.{length-set}

@@ -1,20 +1,18 @@
 -- The invariant: the first k records are laid at the front.
-use Prim.Native.Nat.{ℕ, _≤_, _-_}
+use Prim.Native.Nat.{_≤_, _-_}
 use mathlib.Core.Path.{_≡_, refl}
 use native.Mathlib.Omega.{arith}
 use lib.ListN.{length}
 use Rattle.sheet.specs.Paper.{joined}
-use Rattle.sheet.specs.Table.{jobOf}
-use Rattle.sheet.specs.Sheet.{recordBytes}
 use Rattle.writer.specs.Laid.{Laid}
 use Rattle.writer.proofs.Laying.{laid-none}
-use Rattle.writer.proofs.Parts.{records-laid}
+use Rattle.writer.proofs.Parts.{recordsOf, records-laid}
 use borrow.Author.Needs.{needs}
 use Rattle.writer.proofs.put_records.Statement.{statement}
 use Rattle.writer.proofs.put_records.Tie as tie
 
 abbrev Inv-loop : tie.InvT-loop
-Inv-loop out₀ t count k₀ out k = (count ≡ t .count) × (k ≤ count) × (length out ≡ length out₀) × Laid out₀ 0 (joined (λ n. recordBytes (jobOf t n)) k) out
+Inv-loop out₀ t count k₀ out k = (count ≡ t .count) × (k ≤ count) × (length out ≡ length out₀) × Laid out₀ 0 (recordsOf t k) out
 
 abbrev μ-loop : tie.MeasureT-loop
 μ-loop out₀ t count k₀ out k = count - k

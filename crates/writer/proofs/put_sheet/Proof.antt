@@ -4,17 +4,17 @@ use borrow.Author.Needs.{needs}
 use Rattle.writer.proofs.put_sheet.Statement.{statement}
 use Rattle.writer.proofs.put_sheet.Tie as tie
 
-mul-records : tie.Need-mul-records
-mul-records c = search needs
-
 put-records-requires : tie.Need-put-records-requires
 put-records-requires c κs = search needs
+
+mul-put-harvest : tie.Need-mul-put-harvest
+mul-put-harvest c = search needs
 
 put-harvest-requires : tie.Need-put-harvest-requires
 put-harvest-requires c κs = search needs
 
-add-put-trailer : tie.Need-add-put-trailer
-add-put-trailer c = search needs
+sub-put-trailer : tie.Need-sub-put-trailer
+sub-put-trailer c = search needs
 
 put-trailer-requires : tie.Need-put-trailer-requires
 put-trailer-requires c κs = search needs
@@ -29,10 +29,10 @@ pub put-sheet-spec : {M : Type 1} → statement M
 put-sheet-spec =
     tie.close
     (tie.spec
-    mul-records
     put-records-requires
+    mul-put-harvest
     put-harvest-requires
-    add-put-trailer
+    sub-put-trailer
     put-trailer-requires
     same-length
     returns)

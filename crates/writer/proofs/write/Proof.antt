@@ -1,13 +1,14 @@
 -- Each answer follows what the check said, and then the test of the room; the buffer is what `put_sheet` laid.
-use native.Mathlib.Omega.{arith}
-use mathlib.Core.Path.{sym, ap, _∙_}
-use Rattle.sheet.specs.Refusals.{outcomeSays}
 use Rattle.sheet.proofs.Order.{says-gives}
-use Rattle.writer.proofs.Accepted.{accepted}
+use Rattle.writer.proofs.Accepted.{Accepted, accepted}
 use Rattle.writer.proofs.Promised.{writes-refused, writes-no-room, writes-length}
 use borrow.Author.Needs.{needs}
 use Rattle.writer.proofs.write.Statement.{statement}
 use Rattle.writer.proofs.write.Tie as tie
+
+-- past the check: the table and the harvest are accepted
+good : (c : tie.After-enum-told) → let start = c .before .before .before .before .before in Accepted (start .args .t) (start .args .harvest .now)
+good c = accepted _ _ (says-gives _ _ (c .enum-told .given .1) (c .before .before .check .ensures))
 
 check-requires : tie.Need-check-requires
 check-requires c κs = search needs
@@ -16,42 +17,28 @@ enum-known-answer : tie.Need-enum-known-answer
 enum-known-answer c = search needs
 
 returns : tie.Need-returns
-returns c = writes-refused _ _ _ _ (sym (ap outcomeSays (c .before .answer .given .1)) ∙ c .before .before .before .check .ensures)
+returns c = search writes-refused
 
 enum-told : tie.Need-enum-told
 enum-told c = search needs
 
 sheet-length-requires : tie.Need-sheet-length-requires
-sheet-length-requires c κs =
-    let checked = c .before .before in
-    accepted _ _ (says-gives _ _ (c .enum-told .given .1) (checked .check .ensures)) .jobs
+sheet-length-requires c κs = good c .jobs
 
 returns-2 : tie.Need-returns-2
-returns-2 c =
-    let tested = c .before in
-    let answered = tested .before in
-    let checked = answered .before .before in
-    writes-no-room _ _ _ (says-gives _ _ (answered .enum-told .given .1) (checked .check .ensures))
-    (omega (arith, tested .sheet-length .ensures))
+returns-2 c = search writes-no-room
 
 put-sheet-requires : tie.Need-put-sheet-requires
 put-sheet-requires c κs =
     let tested = c .before .before in
-    let answered = tested .before in
-    let checked = answered .before .before in
-    let good = accepted _ _ (says-gives _ _ (answered .enum-told .given .1) (checked .check .ensures)) in
-    (good .jobs, good .slots, good .bytes, omega (arith, tested .sheet-length .ensures))
+    let known = good (tested .before) in
+    ((known .jobs, known .slots, known .bytes), (tested .sheet-length .ensures, c .before .if1 .left))
 
 same-length : tie.Need-same-length
 same-length c = search needs
 
 returns-3 : tie.Need-returns-3
-returns-3 c =
-    let tested = c .before .before .before .before .before in
-    let answered = tested .before in
-    let checked = answered .before .before in
-    writes-length _ _ _ _ _ (says-gives _ _ (answered .enum-told .given .1) (checked .check .ensures)) (tested .sheet-length .ensures)
-    (c .before .before .before .before .if1 .left) (c .before .before .put-sheet .ensures)
+returns-3 c = search writes-length
 
 pub write-spec : {M : Type 1} → statement M
 write-spec =
