@@ -1,6 +1,7 @@
 pub mod Exactly
 pub mod Lists
 pub mod Order
+pub mod Parts
 pub mod Reading
 pub mod RoundTrips
 pub mod Tests

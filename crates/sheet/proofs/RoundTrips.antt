@@ -14,7 +14,8 @@ use Rattle.sheet.specs.Sheet.{u16, u16At, recordBytes, recordLength, tra
 use Rattle.sheet.specs.WellFormed.{GoodJob, GoodTable, WellFormed, SameTable, Bytes}
 use Rattle.sheet.specs.declared.Job.{Job}
 use Rattle.sheet.specs.declared.Table.{Table}
-use Rattle.sheet.proofs.Lists.{joined-length, joined-same, stretch-joined}
+use Rattle.sheet.proofs.Lists.{joined-same, stretch-joined}
+use Rattle.sheet.proofs.Parts.{recordsOf, records-length, trailer-length, sheet-length}
 use Rattle.sheet.proofs.Reading.{table-given, harvest-given}
 use Rattle.sheet.proofs.Theorems.{job-in-table, harvest-length, sheet-accepted-exactly}
 
@@ -33,33 +34,19 @@ u16-back a b ha hb =
 
 -- ---- records, one after the other
 
-record-length : (j : Job) → length (recordBytes j) ≡ recordLength
-unfolding recordBytes
-record-length j = refl
-
-pub trailer-length : (t : Table) → length (trailerBytes t) ≡ trailerLength
-unfolding trailerBytes
-trailer-length t = refl
-
 module _ (jobs : ℕ → Job) where
-  abbrev records : ℕ → List ℕ
-  records n = joined (λ k. recordBytes (jobs k)) n
-
-  pub records-length : (n : ℕ) → length (records n) ≡ recordLength * n
-  records-length n = joined-length (λ k. recordBytes (jobs k)) recordLength (λ k. record-length (jobs k)) n
-
   -- byte i of record k
-  pub records-get : (n k i : ℕ) → k < n → i < recordLength → getD (records n) (recordLength * k + i) 0 ≡ getD (recordBytes (jobs k)) i 0
+  pub records-get : (n k i : ℕ) → k < n → i < recordLength → getD (recordsOf jobs n) (recordLength * k + i) 0 ≡ getD (recordBytes (jobs k)) i 0
   unfolding joined
   records-get zero k i h l = absurd (not-suc-le-zero h)
   records-get (suc n) k i h l =
       elim (decLt k n) [
         | yes m ↦
-            List·getD-append (records n) (recordBytes (jobs n)) 0 (recordLength * k + i) (rw (records-length n) (omega arith)) ∙ records-get n k i m l
+            List·getD-append (recordsOf jobs n) (recordBytes (jobs n)) 0 (recordLength * k + i) (rw (records-length jobs n) (omega arith)) ∙ records-get n k i m l
         | no m ↦
             let same : n ≡ k = omega arith in
-            ap (λ (at : ℕ). getD (records (suc n)) (at + i) 0) (ap (λ (j : ℕ). recordLength * j) (sym same) ∙ sym (records-length n))
-            ∙ getD-append-add (records n) (recordBytes (jobs n)) i 0
+            ap (λ (at : ℕ). getD (recordsOf jobs (suc n)) (at + i) 0) (ap (λ (j : ℕ). recordLength * j) (sym same) ∙ sym (records-length jobs n))
+            ∙ getD-append-add (recordsOf jobs n) (recordBytes (jobs n)) i 0
             ∙ ap (λ (j : ℕ). getD (recordBytes (jobs j)) i 0) same
       ]
 
@@ -70,7 +57,7 @@ module _ (t : Table) (harvest : List ℕ) (good : GoodTable t harvest) (fits : t
   written = sheetBytes t harvest
 
   abbrev front : List ℕ
-  front = joined (λ k. recordBytes (jobOf t k)) (t .count)
+  front = recordsOf (jobOf t) (t .count)
 
   front-length : length (front ++ harvest) ≡ t .slots + recordLength * t .count
   front-length =
@@ -79,8 +66,7 @@ module _ (t : Table) (harvest : List ℕ) (good : GoodTable t harvest) (fits : t
       length-append front harvest ∙ omega arith
 
   written-length : length written ≡ sheetLength (t .count) (t .slots)
-  unfolding sheetBytes
-  written-length = length-append (front ++ harvest) (trailerBytes t) ∙ ap₂ _+_ front-length (trailer-length t)
+  written-length = sheet-length t harvest (good .harvest-fits)
 
   trailer-starts : trailerAt written ≡ length (front ++ harvest)
   trailer-starts = let a = written-length in let b = front-length in omega arith

@@ -1,0 +1,4 @@
+pub mod Laying
+pub mod Parts
+pub mod Promised
+pub mod Theorems

@@ -1,0 +1,48 @@
+-- What the promise settles: for any table, harvest and buffer it leaves one answer and one buffer.
+use Prim.Native.Nat.{ℕ}
+use mathlib.Core.Path.{_≡_, refl, sym, ap, _∙_}
+use mathlib.Core.List.{List}
+use mathlib.Core.Bool.{Bool, true, false}
+use lib.Dec.{eqb}
+use Rattle.sheet.specs.Paper.{Paper, gives, refuses, refusesAt}
+use Rattle.sheet.specs.declared.Refusal.the-variants.{Short, Mark, Counts, Layout, Window, Work}
+use Rattle.sheet.specs.declared.Table.{Table}
+use Rattle.writer.specs.declared.Written.{Written}
+use Rattle.writer.specs.declared.Written.the-variants.{Length, Refused, NoRoom}
+use Rattle.writer.specs.Promise.{writtenSays, Writes}
+
+-- `pick b x y`: x where b holds, y otherwise
+abbrev pick : Bool → Written → Written → Written
+pick true this that = this
+pick false this that = that
+
+-- the answer that the paper's number and place stand for
+abbrev writtenMeant : Paper ℕ → Written
+writtenMeant (gives n) = Length n
+writtenMeant (refuses n) =
+    pick (eqb n 1) (Refused Short)
+    (pick (eqb n 2) (Refused Mark)
+    (pick (eqb n 3) (Refused Counts)
+    (pick (eqb n 4) (Refused Layout) NoRoom)))
+writtenMeant (refusesAt n k) = pick (eqb n 5) (Refused (Window k)) (Refused (Work k))
+
+written-meant : (r : Written) → writtenMeant (writtenSays r) ≡ r
+written-meant (Length n) = refl
+written-meant (Refused Short) = refl
+written-meant (Refused Mark) = refl
+written-meant (Refused Counts) = refl
+written-meant (Refused Layout) = refl
+written-meant (Refused (Window k)) = refl
+written-meant (Refused (Work k)) = refl
+written-meant NoRoom = refl
+
+-- two answers that the paper writes alike are the same
+pub says-one-answer : (r r' : Written) → writtenSays r ≡ writtenSays r' → r ≡ r'
+says-one-answer r r' e = sym (written-meant r) ∙ ap writtenMeant e ∙ written-meant r'
+
+-- any two results that the promise allows are equal: the answer, and every byte of the buffer
+pub one-result : {t : Table} {harvest out after after' : List ℕ} {r r' : Written}
+    → Writes t harvest out r after
+    → Writes t harvest out r' after'
+    → (r ≡ r') × (after ≡ after')
+one-result {r = r} {r' = r'} w w' = (says-one-answer r r' (w .answer ∙ sym (w' .answer)), w .buffer ∙ sym (w' .buffer))

@@ -1,0 +1,56 @@
+-- Each answer follows what the check said, and then the test of the room; the buffer is what `put_sheet` laid.
+use Rattle.sheet.proofs.Order.{says-gives}
+use Rattle.sheet.specs.WellFormed.{GoodTable}
+use Rattle.sheet.proofs.Theorems.{table-accepted-exactly}
+use Rattle.writer.proofs.Promised.{writes-refused, writes-no-room, writes-length}
+use borrow.Author.Needs.{needs}
+use Rattle.writer.proofs.write.Statement.{statement}
+use Rattle.writer.proofs.write.Tie as tie
+
+-- past the check the table and the harvest are well formed
+good : (c : tie.After-enum-told) → let start = c .before .before .before .before .before in GoodTable (start .args .t) (start .args .harvest .now)
+good c = table-accepted-exactly _ _ .0 (says-gives _ _ (c .enum-told .given .1) (c .before .before .check .ensures))
+
+check-requires : tie.Need-check-requires
+check-requires c κs = search needs
+
+enum-known-answer : tie.Need-enum-known-answer
+enum-known-answer c = search needs
+
+returns : tie.Need-returns
+returns c = search writes-refused
+
+enum-told : tie.Need-enum-told
+enum-told c = search needs
+
+sheet-length-requires : tie.Need-sheet-length-requires
+sheet-length-requires c κs = good c .few-jobs
+
+returns-2 : tie.Need-returns-2
+returns-2 c = search writes-no-room
+
+put-sheet-requires : tie.Need-put-sheet-requires
+put-sheet-requires c κs =
+    let tested = c .before .before in
+    let known = good (tested .before) in
+    ((known .few-jobs, known .few-slots, known .harvest-fits), (tested .sheet-length .ensures, c .before .if1 .left))
+
+same-length : tie.Need-same-length
+same-length c = search needs
+
+returns-3 : tie.Need-returns-3
+returns-3 c = search writes-length
+
+pub write-spec : {M : Type 1} → statement M
+write-spec =
+    tie.close
+    (tie.spec
+    check-requires
+    enum-known-answer
+    returns
+    enum-told
+    sheet-length-requires
+    returns-2
+    put-sheet-requires
+    same-length
+    returns-3)
