@@ -1,0 +1,1814 @@
+//! An independent second program for document 01 (the day sheet, the overload search,
+//! the ED-H slot run, the planner and the program `day`).
+//!
+//! It is written from the paper alone and shares no code with the proved crates: its answers
+//! are what theirs are compared with. Obvious code is preferred to fast code throughout. All
+//! arithmetic is in i64, which nothing here can overflow.
+//!
+//! Build: rustc -O second.rs -o second (in a folder outside the repository)
+//! Use:   second day < SHEET | second cases < FILE | second make > FILE | second self-test
+
+use std::io::{Read, Write};
+
+// ------------------------------------------------------------------------------------------
+// The paper's numbers
+// ------------------------------------------------------------------------------------------
+
+const MOST_JOBS: i64 = 64;
+const MOST_SLOTS: i64 = 1440;
+const RECORD_BYTES: i64 = 8;
+const TRAILER_BYTES: i64 = 12;
+const MARK: [u8; 2] = [0x45, 0x48];
+const IDLE_BYTE: u8 = 255;
+const LONGEST_INPUT: usize = 4096;
+
+// ------------------------------------------------------------------------------------------
+// Tables and refusals
+// ------------------------------------------------------------------------------------------
+
+#[derive(Clone, Copy, PartialEq, Debug)]
+struct Job {
+    release: i64,
+    deadline: i64,
+    wanted: i64,
+    energy: i64,
+}
+
+const ZERO_JOB: Job = Job { release: 0, deadline: 0, wanted: 0, energy: 0 };
+
+/// The jobs are the first `count` places; what stands beyond them is never looked at.
+#[derive(Clone, PartialEq, Debug)]
+struct Table {
+    count: i64,
+    slots: i64,
+    capacity: i64,
+    places: [Job; MOST_JOBS as usize],
+}
+
+impl Table {
+    /// The table's jobs in order. Only for tables whose count is at most 64.
+    fn jobs(&self) -> &[Job] {
+        &self.places[..self.count as usize]
+    }
+}
+
+/// A refusal number; 5 and 6 name the record.
+#[derive(Clone, Copy, PartialEq, Debug)]
+struct Refusal {
+    number: i64,
+    record: Option<i64>,
+}
+
+fn refuse<T>(number: i64) -> Result<T, Refusal> {
+    Err(Refusal { number, record: None })
+}
+
+fn refuse_record<T>(number: i64, record: i64) -> Result<T, Refusal> {
+    Err(Refusal { number, record: Some(record) })
+}
+
+/// 3: more than 64 jobs, or slots 0 or above 1,440.
+fn check_limits(count: i64, slots: i64) -> Result<(), Refusal> {
+    if count > MOST_JOBS || slots == 0 || slots > MOST_SLOTS {
+        return refuse(3);
+    }
+    Ok(())
+}
+
+/// 5 before 6 in one record.
+fn check_record(record: i64, job: Job, last_byte: i64, slots: i64) -> Result<(), Refusal> {
+    if !(job.release < job.deadline) || job.deadline > slots {
+        return refuse_record(5, record);
+    }
+    if job.wanted == 0 || job.wanted > MOST_SLOTS || job.energy == 0 || last_byte != 0 {
+        return refuse_record(6, record);
+    }
+    Ok(())
+}
+
+/// A table and harvest in place of a sheet: 3, then 4 (harvest length is not slots), then the
+/// records in order.
+fn check_table(table: &Table, harvest: &[u8]) -> Result<(), Refusal> {
+    check_limits(table.count, table.slots)?;
+    if harvest.len() as i64 != table.slots {
+        return refuse(4);
+    }
+    for (record, job) in table.jobs().iter().enumerate() {
+        check_record(record as i64, *job, 0, table.slots)?;
+    }
+    Ok(())
+}
+
+// ------------------------------------------------------------------------------------------
+// The day sheet: reader and writer
+// ------------------------------------------------------------------------------------------
+
+/// The little-endian u16 at a place.
+fn number_at(bytes: &[u8], at: i64) -> i64 {
+    let at = at as usize;
+    bytes[at] as i64 + 256 * bytes[at + 1] as i64
+}
+
+fn little_endian(number: i64) -> [u8; 2] {
+    assert!(0 <= number && number <= 65535);
+    [(number % 256) as u8, (number / 256) as u8]
+}
+
+/// The table and the harvest of a sheet. Order: 1, 2, 3, 4, then the records.
+fn read_sheet(sheet: &[u8]) -> Result<(Table, &[u8]), Refusal> {
+    let length = sheet.len() as i64;
+    if length < TRAILER_BYTES {
+        return refuse(1);
+    }
+    if sheet[sheet.len() - 2..] != MARK {
+        return refuse(2);
+    }
+    let trailer = length - TRAILER_BYTES;
+    let back_to_harvest = number_at(sheet, trailer);
+    let back_to_jobs = number_at(sheet, trailer + 2);
+    let count = number_at(sheet, trailer + 4);
+    let slots = number_at(sheet, trailer + 6);
+    let capacity = number_at(sheet, trailer + 8);
+    check_limits(count, slots)?;
+    if back_to_harvest != slots
+        || back_to_jobs != slots + RECORD_BYTES * count
+        || length != slots + RECORD_BYTES * count + TRAILER_BYTES
+    {
+        return refuse(4);
+    }
+    let mut places = [ZERO_JOB; MOST_JOBS as usize];
+    for record in 0..count {
+        let at = trailer - back_to_jobs + RECORD_BYTES * record;
+        let job = Job {
+            release: number_at(sheet, at),
+            deadline: number_at(sheet, at + 2),
+            wanted: number_at(sheet, at + 4),
+            energy: sheet[at as usize + 6] as i64,
+        };
+        check_record(record, job, sheet[at as usize + 7] as i64, slots)?;
+        places[record as usize] = job;
+    }
+    let harvest = &sheet[(trailer - back_to_harvest) as usize..trailer as usize];
+    Ok((Table { count, slots, capacity, places }, harvest))
+}
+
+/// Writes the sheet at the front of the buffer, keeps the bytes behind it, and answers the
+/// length. Order: 3, 4, the records, then 8.
+fn write_sheet(table: &Table, harvest: &[u8], buffer: &mut [u8]) -> Result<i64, Refusal> {
+    check_table(table, harvest)?;
+    let sheet = sheet_bytes(table.jobs(), harvest, table.capacity);
+    if buffer.len() < sheet.len() {
+        return refuse(8);
+    }
+    buffer[..sheet.len()].copy_from_slice(&sheet);
+    Ok(sheet.len() as i64)
+}
+
+/// The bytes of a sheet, from the front: records, harvest, trailer. Checks nothing.
+fn sheet_bytes(jobs: &[Job], harvest: &[u8], capacity: i64) -> Vec<u8> {
+    let count = jobs.len() as i64;
+    let slots = harvest.len() as i64;
+    let mut sheet = Vec::new();
+    for job in jobs {
+        sheet.extend(little_endian(job.release));
+        sheet.extend(little_endian(job.deadline));
+        sheet.extend(little_endian(job.wanted));
+        sheet.push(job.energy as u8);
+        sheet.push(0);
+    }
+    sheet.extend(harvest);
+    sheet.extend(little_endian(slots));
+    sheet.extend(little_endian(slots + RECORD_BYTES * count));
+    sheet.extend(little_endian(count));
+    sheet.extend(little_endian(slots));
+    sheet.extend(little_endian(capacity));
+    sheet.extend(MARK);
+    sheet
+}
+
+// ------------------------------------------------------------------------------------------
+// Demand and overload
+// ------------------------------------------------------------------------------------------
+
+#[derive(Clone, Copy, PartialEq, Debug)]
+enum Kind {
+    Time,
+    Energy,
+}
+
+#[derive(Clone, Copy, PartialEq, Debug)]
+struct Overload {
+    kind: Kind,
+    start: i64,
+    end: i64,
+    demand: i64,
+    supply: i64,
+}
+
+/// The harvest of slots `from` to `to` - 1.
+fn harvest_sum(harvest: &[u8], from: i64, to: i64) -> i64 {
+    let mut sum = 0;
+    for slot in from..to {
+        sum += harvest[slot as usize] as i64;
+    }
+    sum
+}
+
+/// An interval's jobs are those with release at or after t1 and deadline at or before t2.
+fn is_of_interval(job: &Job, t1: i64, t2: i64) -> bool {
+    job.release >= t1 && job.deadline <= t2
+}
+
+fn demand(kind: Kind, table: &Table, t1: i64, t2: i64) -> i64 {
+    let mut sum = 0;
+    for job in table.jobs() {
+        if is_of_interval(job, t1, t2) {
+            sum += match kind {
+                Kind::Time => job.wanted,
+                Kind::Energy => job.wanted * job.energy,
+            };
+        }
+    }
+    sum
+}
+
+fn supply(kind: Kind, table: &Table, harvest: &[u8], t1: i64, t2: i64) -> i64 {
+    match kind {
+        Kind::Time => t2 - t1,
+        Kind::Energy => table.capacity + harvest_sum(harvest, t1, t2),
+    }
+}
+
+/// The interval in that kind, where it is overloaded: demand above supply.
+fn overload_in(kind: Kind, table: &Table, harvest: &[u8], t1: i64, t2: i64) -> Option<Overload> {
+    let demand = demand(kind, table, t1, t2);
+    let supply = supply(kind, table, harvest, t1, t2);
+    if demand > supply {
+        Some(Overload { kind, start: t1, end: t2, demand, supply })
+    } else {
+        None
+    }
+}
+
+/// Of these intervals, the overloaded one with the smallest end, then the latest start, and
+/// there time before energy.
+fn first_overload(table: &Table, harvest: &[u8], intervals: &[(i64, i64)]) -> Option<Overload> {
+    let mut best: Option<Overload> = None;
+    for &(t1, t2) in intervals {
+        let time = overload_in(Kind::Time, table, harvest, t1, t2);
+        let energy = overload_in(Kind::Energy, table, harvest, t1, t2);
+        let here = match time.or(energy) {
+            None => continue,
+            Some(here) => here,
+        };
+        let better = match best {
+            None => true,
+            Some(best) => here.end < best.end || (here.end == best.end && here.start > best.start),
+        };
+        if better {
+            best = Some(here);
+        }
+    }
+    best
+}
+
+/// The search tries intervals from a job's release to a job's deadline.
+fn search_overload(table: &Table, harvest: &[u8]) -> Option<Overload> {
+    let mut intervals = Vec::new();
+    for from in table.jobs() {
+        for to in table.jobs() {
+            if from.release < to.deadline {
+                intervals.push((from.release, to.deadline));
+            }
+        }
+    }
+    first_overload(table, harvest, &intervals)
+}
+
+/// The same over every pair of slots: the self-test holds the search against it.
+fn search_all_slots(table: &Table, harvest: &[u8]) -> Option<Overload> {
+    let mut intervals = Vec::new();
+    for t1 in 0..table.slots {
+        for t2 in t1 + 1..=table.slots {
+            intervals.push((t1, t2));
+        }
+    }
+    first_overload(table, harvest, &intervals)
+}
+
+// ------------------------------------------------------------------------------------------
+// The slot run
+// ------------------------------------------------------------------------------------------
+
+/// `left` is slots still wanted, a place a job; beyond the last job it is handed on unread.
+#[derive(Clone, PartialEq, Debug)]
+struct State {
+    slot: i64,
+    level: i64,
+    left: [i64; MOST_JOBS as usize],
+}
+
+#[derive(Clone, Copy, PartialEq, Debug)]
+enum IdleWhy {
+    None,
+    Empty,
+    Saving,
+}
+
+#[derive(Clone, Copy, PartialEq, Debug)]
+enum BusyWhy {
+    Full,
+    NoSlack,
+    Free,
+}
+
+#[derive(Clone, Copy, PartialEq, Debug)]
+enum Decision {
+    Idle(IdleWhy),
+    Busy(usize, BusyWhy),
+}
+
+/// The level starts at capacity, and every job has all its slots to come.
+fn first_state(table: &Table) -> State {
+    let mut left = [0; MOST_JOBS as usize];
+    for (number, job) in table.jobs().iter().enumerate() {
+        left[number] = job.wanted;
+    }
+    State { slot: 0, level: table.capacity, left }
+}
+
+/// Ready: released, deadline after t, slots still wanted.
+fn is_ready(table: &Table, state: &State, number: usize) -> bool {
+    let job = table.jobs()[number];
+    job.release <= state.slot && job.deadline > state.slot && state.left[number] > 0
+}
+
+/// Of the ready jobs the one with the smallest deadline, ties the lowest number.
+fn chosen_job(table: &Table, state: &State) -> Option<usize> {
+    let mut chosen: Option<usize> = None;
+    for number in 0..table.jobs().len() {
+        if !is_ready(table, state, number) {
+            continue;
+        }
+        match chosen {
+            Some(before) if table.jobs()[before].deadline <= table.jobs()[number].deadline => {}
+            _ => chosen = Some(number),
+        }
+    }
+    chosen
+}
+
+/// The lesser of the least so far and one more; none so far is unlimited.
+fn least(so_far: Option<i64>, one: i64) -> Option<i64> {
+    match so_far {
+        None => Some(one),
+        Some(least) => Some(least.min(one)),
+    }
+}
+
+/// The slack time; None is unlimited.
+fn slack_time(table: &Table, state: &State) -> Option<i64> {
+    let t = state.slot;
+    let mut slack = None;
+    // over each job with deadline D after t and slots still wanted
+    for (number, job) in table.jobs().iter().enumerate() {
+        if !(job.deadline > t && state.left[number] > 0) {
+            continue;
+        }
+        // slots still wanted by all jobs with deadlines after t and up to D, released or not
+        let mut still_wanted = 0;
+        for (other_number, other) in table.jobs().iter().enumerate() {
+            if other.deadline > t && other.deadline <= job.deadline {
+                still_wanted += state.left[other_number];
+            }
+        }
+        slack = least(slack, job.deadline - t - still_wanted);
+    }
+    slack
+}
+
+/// The slack energy for the chosen job; None is unlimited.
+fn slack_energy(table: &Table, harvest: &[u8], state: &State, chosen: usize) -> Option<i64> {
+    let t = state.slot;
+    let mut slack = None;
+    // over each job released after t with deadline D below the chosen job's
+    for job in table.jobs() {
+        if !(job.release > t && job.deadline < table.jobs()[chosen].deadline) {
+            continue;
+        }
+        // slots wanted x energy of all jobs released after t with deadlines up to D
+        let mut needed = 0;
+        for other in table.jobs() {
+            if other.release > t && other.deadline <= job.deadline {
+                needed += other.wanted * other.energy;
+            }
+        }
+        let coming = harvest_sum(harvest, t, job.deadline);
+        slack = least(slack, state.level + coming - needed);
+    }
+    slack
+}
+
+/// What happens in the state's slot: the first rule that applies.
+fn decide(table: &Table, harvest: &[u8], state: &State) -> Decision {
+    let p = harvest[state.slot as usize] as i64;
+    // 1. nothing ready
+    let chosen = match chosen_job(table, state) {
+        None => return Decision::Idle(IdleWhy::None),
+        Some(chosen) => chosen,
+    };
+    let energy = table.jobs()[chosen].energy;
+    // 2. level + p below the chosen job's energy
+    if state.level + p < energy {
+        return Decision::Idle(IdleWhy::Empty);
+    }
+    // 3. level + p above capacity
+    if state.level + p > table.capacity {
+        return Decision::Busy(chosen, BusyWhy::Full);
+    }
+    // 4. slack time 0 or less
+    if matches!(slack_time(table, state), Some(slack) if slack <= 0) {
+        return Decision::Busy(chosen, BusyWhy::NoSlack);
+    }
+    // 5. slack energy below the job's energy
+    if matches!(slack_energy(table, harvest, state, chosen), Some(slack) if slack < energy) {
+        return Decision::Idle(IdleWhy::Saving);
+    }
+    // 6.
+    Decision::Busy(chosen, BusyWhy::Free)
+}
+
+/// The state after the slot. The next level is the lesser of capacity and
+/// level + p - energy spent.
+fn next_state(table: &Table, harvest: &[u8], state: &State, decision: Decision) -> State {
+    let mut next = state.clone();
+    let mut spent = 0;
+    if let Decision::Busy(number, _) = decision {
+        spent = table.jobs()[number].energy;
+        next.left[number] -= 1;
+    }
+    next.level = table.capacity.min(state.level + harvest[state.slot as usize] as i64 - spent);
+    next.slot = state.slot + 1;
+    next
+}
+
+#[derive(Clone, PartialEq, Debug)]
+enum Step {
+    Over,
+    Taken(Decision, State),
+}
+
+/// One slot from any state: the table's checks, then "day over", then the rules.
+fn step(table: &Table, harvest: &[u8], state: &State) -> Result<Step, Refusal> {
+    check_table(table, harvest)?;
+    if state.slot >= table.slots {
+        return Ok(Step::Over);
+    }
+    let decision = decide(table, harvest, state);
+    Ok(Step::Taken(decision, next_state(table, harvest, state, decision)))
+}
+
+/// The whole run of a checked table: each slot's decision and the state after it.
+fn run(table: &Table, harvest: &[u8]) -> Vec<(Decision, State)> {
+    let mut state = first_state(table);
+    let mut slots = Vec::new();
+    while let Ok(Step::Taken(decision, next)) = step(table, harvest, &state) {
+        slots.push((decision, next.clone()));
+        state = next;
+    }
+    assert_eq!(slots.len() as i64, table.slots);
+    slots
+}
+
+// ------------------------------------------------------------------------------------------
+// The planner
+// ------------------------------------------------------------------------------------------
+
+#[derive(Clone, Copy, PartialEq, Debug)]
+enum Answer {
+    Overloaded(Overload),
+    Met,
+    Undecided(usize),
+}
+
+/// Met if every job got its slots, else undecided with the job unfinished at the smallest
+/// deadline, ties the lowest number.
+fn verdict(table: &Table, last: &State) -> Answer {
+    let mut named: Option<usize> = None;
+    for (number, job) in table.jobs().iter().enumerate() {
+        if last.left[number] == 0 {
+            continue;
+        }
+        match named {
+            Some(before) if table.jobs()[before].deadline <= job.deadline => {}
+            _ => named = Some(number),
+        }
+    }
+    match named {
+        None => Answer::Met,
+        Some(number) => Answer::Undecided(number),
+    }
+}
+
+fn plan_byte(decision: Decision) -> u8 {
+    match decision {
+        Decision::Idle(_) => IDLE_BYTE,
+        Decision::Busy(number, _) => number as u8,
+    }
+}
+
+/// The planner on a table and harvest: the table's checks, then 7, then the overload search,
+/// then the run, which alone writes into the plan buffer.
+fn plan_table(table: &Table, harvest: &[u8], plan: &mut [u8]) -> Result<Answer, Refusal> {
+    check_table(table, harvest)?;
+    if plan.len() as i64 != table.slots {
+        return refuse(7);
+    }
+    if let Some(overload) = search_overload(table, harvest) {
+        return Ok(Answer::Overloaded(overload));
+    }
+    let slots = run(table, harvest);
+    for (slot, (decision, _)) in slots.iter().enumerate() {
+        plan[slot] = plan_byte(*decision);
+    }
+    Ok(verdict(table, &slots[slots.len() - 1].1))
+}
+
+/// The planner on a sheet.
+fn plan_sheet(sheet: &[u8], plan: &mut [u8]) -> Result<Answer, Refusal> {
+    let (table, harvest) = read_sheet(sheet)?;
+    plan_table(&table, harvest, plan)
+}
+
+// ------------------------------------------------------------------------------------------
+// The program `day`
+// ------------------------------------------------------------------------------------------
+
+fn ground_word(decision: Decision) -> &'static str {
+    match decision {
+        Decision::Idle(IdleWhy::None) => "none",
+        Decision::Idle(IdleWhy::Empty) => "empty",
+        Decision::Idle(IdleWhy::Saving) => "saving",
+        Decision::Busy(_, BusyWhy::Full) => "full",
+        Decision::Busy(_, BusyWhy::NoSlack) => "noslack",
+        Decision::Busy(_, BusyWhy::Free) => "free",
+    }
+}
+
+fn overload_words(overload: Overload) -> String {
+    let kind = match overload.kind {
+        Kind::Time => "time",
+        Kind::Energy => "energy",
+    };
+    let Overload { start, end, demand, supply, .. } = overload;
+    format!("{kind} {start} {end} demand {demand} supply {supply}")
+}
+
+/// The planner's answer after a met, undecided or overloaded day.
+fn answer_words(answer: Answer) -> String {
+    match answer {
+        Answer::Overloaded(overload) => overload_words(overload),
+        Answer::Met => "met".to_string(),
+        Answer::Undecided(number) => format!("undecided job {number}"),
+    }
+}
+
+/// What `day` prints for the bytes on its standard input.
+fn day_listing(input: &[u8]) -> String {
+    if input.len() > LONGEST_INPUT {
+        return "too long\n".to_string();
+    }
+    let (table, harvest) = match read_sheet(input) {
+        Err(refusal) => return format!("refused {}\n", refusal.number),
+        Ok(read) => read,
+    };
+    let mut listing = format!(
+        "day slots {} jobs {} capacity {}\n",
+        table.slots, table.count, table.capacity
+    );
+    if let Some(overload) = search_overload(&table, harvest) {
+        listing += &format!("verdict {}\n", overload_words(overload));
+        return listing;
+    }
+    let slots = run(&table, harvest);
+    for (slot, (decision, after)) in slots.iter().enumerate() {
+        let who = match decision {
+            Decision::Idle(_) => "idle".to_string(),
+            Decision::Busy(number, _) => format!("job {number}"),
+        };
+        let ground = ground_word(*decision);
+        listing += &format!("slot {slot} {who} {ground} level {}\n", after.level);
+    }
+    let last = &slots[slots.len() - 1].1;
+    listing += &format!("verdict {}\n", answer_words(verdict(&table, last)));
+    listing
+}
+
+// ------------------------------------------------------------------------------------------
+// Case files
+//
+// A case is a kind byte, a length u16 and that many payload bytes. A case file that breaks its
+// own format stops the program: that is a fault of the file, not an answer.
+// ------------------------------------------------------------------------------------------
+
+const FILL: u8 = 0xA5;
+
+struct Payload<'a> {
+    bytes: &'a [u8],
+    at: usize,
+}
+
+impl<'a> Payload<'a> {
+    fn new(bytes: &'a [u8]) -> Payload<'a> {
+        Payload { bytes, at: 0 }
+    }
+
+    fn is_done(&self) -> bool {
+        self.at == self.bytes.len()
+    }
+
+    fn take(&mut self, length: usize) -> &'a [u8] {
+        assert!(self.at + length <= self.bytes.len(), "the case file ends inside a part");
+        self.at += length;
+        &self.bytes[self.at - length..self.at]
+    }
+
+    fn byte(&mut self) -> i64 {
+        self.take(1)[0] as i64
+    }
+
+    fn number(&mut self) -> i64 {
+        number_at(self.take(2), 0)
+    }
+
+    fn rest(&mut self) -> &'a [u8] {
+        self.take(self.bytes.len() - self.at)
+    }
+
+    /// `T`: the payload's last part.
+    fn table(&mut self) -> (Table, &'a [u8]) {
+        let count = self.number();
+        let slots = self.number();
+        let capacity = self.number();
+        let given = self.byte();
+        assert!(given <= MOST_JOBS, "a table payload gives more than 64 jobs");
+        let mut places = [ZERO_JOB; MOST_JOBS as usize];
+        for place in 0..given {
+            places[place as usize] = Job {
+                release: self.number(),
+                deadline: self.number(),
+                wanted: self.number(),
+                energy: self.byte(),
+            };
+        }
+        let length = self.number();
+        let harvest = self.take(length as usize);
+        assert!(self.is_done(), "bytes are left after a table payload");
+        (Table { count, slots, capacity, places }, harvest)
+    }
+}
+
+fn checksum(numbers: impl IntoIterator<Item = i64>) -> i64 {
+    let mut c = 1;
+    for x in numbers {
+        c = (c * 31 + x) % 65521;
+    }
+    c
+}
+
+fn byte_checksum(bytes: &[u8]) -> i64 {
+    checksum(bytes.iter().map(|byte| *byte as i64))
+}
+
+fn refusal_words(refusal: Refusal) -> String {
+    match refusal.record {
+        None => format!("refused {}", refusal.number),
+        Some(record) => format!("refused {} record {record}", refusal.number),
+    }
+}
+
+fn read_case(sheet: &[u8]) -> String {
+    let (table, harvest) = match read_sheet(sheet) {
+        Err(refusal) => return format!("read {}", refusal_words(refusal)),
+        Ok(read) => read,
+    };
+    let mut numbers = Vec::new();
+    for job in table.places {
+        numbers.extend([job.release, job.deadline, job.wanted, job.energy]);
+    }
+    let mut back = vec![FILL; sheet.len()];
+    let written = write_sheet(&table, harvest, &mut back);
+    let same = written == Ok(sheet.len() as i64) && back == sheet;
+    format!(
+        "read jobs {} slots {} capacity {} sum {} harvest {} back {}",
+        table.count,
+        table.slots,
+        table.capacity,
+        checksum(numbers),
+        byte_checksum(harvest),
+        if same { "same" } else { "different" }
+    )
+}
+
+fn write_case(payload: &[u8]) -> String {
+    let mut payload = Payload::new(payload);
+    let room = payload.number();
+    let (table, harvest) = payload.table();
+    let mut buffer = vec![FILL; room as usize];
+    let words = match write_sheet(&table, harvest, &mut buffer) {
+        Ok(length) => format!("length {length}"),
+        Err(refusal) => refusal_words(refusal),
+    };
+    format!("write {words} sum {}", byte_checksum(&buffer))
+}
+
+fn plan_line(answer: Result<Answer, Refusal>, plan: &[u8]) -> String {
+    let words = match answer {
+        Ok(answer) => answer_words(answer),
+        Err(refusal) => refusal_words(refusal),
+    };
+    format!("plan {words} sum {}", byte_checksum(plan))
+}
+
+fn plan_sheet_case(payload: &[u8]) -> String {
+    let mut payload = Payload::new(payload);
+    let mut plan = vec![FILL; payload.number() as usize];
+    let answer = plan_sheet(payload.rest(), &mut plan);
+    plan_line(answer, &plan)
+}
+
+fn plan_table_case(payload: &[u8]) -> String {
+    let mut payload = Payload::new(payload);
+    let mut plan = vec![FILL; payload.number() as usize];
+    let (table, harvest) = payload.table();
+    let answer = plan_table(&table, harvest, &mut plan);
+    plan_line(answer, &plan)
+}
+
+fn step_case(payload: &[u8]) -> String {
+    let mut payload = Payload::new(payload);
+    let slot = payload.number();
+    let level = payload.number();
+    let mut left = [0; MOST_JOBS as usize];
+    for place in 0..left.len() {
+        left[place] = payload.number();
+    }
+    let (table, harvest) = payload.table();
+    let before = State { slot, level, left };
+    let (words, after) = match step(&table, harvest, &before) {
+        Err(refusal) => (refusal_words(refusal), before),
+        Ok(Step::Over) => ("over".to_string(), before),
+        Ok(Step::Taken(decision, after)) => {
+            let ground = ground_word(decision);
+            match decision {
+                Decision::Idle(_) => (format!("idle {ground}"), after),
+                Decision::Busy(number, _) => (format!("busy {number} {ground}"), after),
+            }
+        }
+    };
+    format!(
+        "step {words} slot {} level {} left {}",
+        after.slot,
+        after.level,
+        checksum(after.left)
+    )
+}
+
+fn case_line(kind: u8, payload: &[u8]) -> String {
+    match kind {
+        b'R' => read_case(payload),
+        b'W' => write_case(payload),
+        b'P' => plan_sheet_case(payload),
+        b'Q' => plan_table_case(payload),
+        b'S' => step_case(payload),
+        _ => "unknown".to_string(),
+    }
+}
+
+fn case_lines(file: &[u8]) -> String {
+    let mut file = Payload::new(file);
+    let mut lines = String::new();
+    while !file.is_done() {
+        let kind = file.byte() as u8;
+        let length = file.number();
+        lines += &case_line(kind, file.take(length as usize));
+        lines += "\n";
+    }
+    lines
+}
+
+// ------------------------------------------------------------------------------------------
+// Days
+// ------------------------------------------------------------------------------------------
+
+/// A table and its harvest, kept together while cases are made.
+#[derive(Clone, Debug)]
+struct Day {
+    jobs: Vec<Job>,
+    capacity: i64,
+    harvest: Vec<u8>,
+}
+
+impl Day {
+    /// Jobs as (release, deadline, slots, energy).
+    fn new(capacity: i64, harvest: &[u8], jobs: &[(i64, i64, i64, i64)]) -> Day {
+        let mut day = Day { jobs: Vec::new(), capacity, harvest: harvest.to_vec() };
+        for &(release, deadline, wanted, energy) in jobs {
+            day.jobs.push(Job { release, deadline, wanted, energy });
+        }
+        day
+    }
+
+    fn slots(&self) -> i64 {
+        self.harvest.len() as i64
+    }
+
+    fn table(&self) -> Table {
+        let mut places = [ZERO_JOB; MOST_JOBS as usize];
+        places[..self.jobs.len()].copy_from_slice(&self.jobs);
+        Table {
+            count: self.jobs.len() as i64,
+            slots: self.slots(),
+            capacity: self.capacity,
+            places,
+        }
+    }
+
+    fn sheet(&self) -> Vec<u8> {
+        sheet_bytes(&self.jobs, &self.harvest, self.capacity)
+    }
+
+    fn answer(&self) -> Answer {
+        let mut plan = vec![FILL; self.harvest.len()];
+        plan_table(&self.table(), &self.harvest, &mut plan).expect("a day that is not refused")
+    }
+}
+
+/// Days 1 to 8 of the paper.
+fn paper_days() -> Vec<Day> {
+    vec![
+        Day::new(1, &[0, 0, 1, 0], &[(0, 4, 1, 1), (1, 2, 1, 1)]),
+        Day::new(1, &[0, 0, 0, 0], &[(0, 4, 1, 1), (1, 2, 1, 1)]),
+        Day::new(2, &[0], &[(0, 1, 1, 1), (0, 1, 1, 1)]),
+        Day::new(1, &[0], &[(0, 1, 1, 1), (0, 1, 1, 1)]),
+        Day::new(4, &[2; 9], &[(0, 9, 3, 3), (1, 5, 4, 3)]),
+        Day::new(5, &[0, 0], &[(0, 2, 3, 1)]),
+        Day::new(0, &[0], &[]),
+        Day::new(0, &[1, 1], &[(0, 2, 2, 1)]),
+    ]
+}
+
+/// Days that show what hardly any run shows.
+fn telling_days() -> Vec<Day> {
+    vec![
+        // slack energy: "below" the chosen deadline is not "up to" it
+        Day::new(5, &[2, 1, 1, 0, 2, 2, 0, 0, 1], &[(2, 6, 3, 3), (0, 9, 3, 1), (7, 9, 1, 2)]),
+        // noslack comes before saving
+        Day::new(4, &[0, 0, 1, 3], &[(0, 4, 2, 2), (3, 4, 1, 1), (1, 2, 1, 3)]),
+        // empty comes before full
+        Day::new(0, &[1, 1, 1], &[(0, 3, 1, 2)]),
+        // empty by the chosen job, where another ready job could be paid
+        Day::new(1, &[0, 0, 3, 0], &[(0, 3, 1, 3), (0, 4, 1, 1)]),
+        // capacity 0: harvest at or above the energy is full
+        Day::new(0, &[0, 2, 1, 3], &[(0, 4, 2, 1)]),
+        // undecided: the smallest deadline, not the lowest number
+        Day::new(0, &[1; 6], &[(0, 6, 1, 2), (0, 4, 1, 2)]),
+        // undecided: of tied deadlines the lowest number
+        Day::new(0, &[1; 5], &[(0, 5, 1, 2), (0, 5, 1, 2)]),
+        Day::new(0, &[1; 8], &[(0, 2, 1, 1), (0, 8, 1, 2), (1, 5, 1, 2), (0, 5, 1, 2)]),
+        // the smallest end before the latest start: 0 to 2 and 2 to 4 are overloaded
+        Day::new(9, &[0, 0, 0, 0], &[(0, 2, 3, 1), (2, 4, 3, 1)]),
+        // the latest start: 0 to 4 and 2 to 4 are overloaded
+        Day::new(9, &[0, 0, 0, 0], &[(0, 4, 2, 1), (2, 4, 3, 1)]),
+        // energy at a later start before time at an earlier one
+        Day::new(3, &[0, 0, 0, 0], &[(0, 4, 3, 1), (2, 4, 2, 2)]),
+        // release and deadline of the interval from different jobs
+        Day::new(9, &[0; 6], &[(1, 3, 2, 1), (2, 5, 3, 1), (0, 6, 1, 1)]),
+        // an interval that starts late still counts the whole capacity
+        Day::new(2, &[0; 6], &[(0, 2, 1, 2), (3, 6, 1, 2)]),
+        Day::new(2, &[0; 6], &[(0, 2, 1, 1), (3, 6, 1, 3)]),
+        // supply equal to demand is no overload
+        Day::new(4, &[0, 0, 0], &[(0, 3, 2, 2)]),
+        // ties in the deadline go to the lowest number, released later or not
+        Day::new(9, &[0; 5], &[(1, 5, 1, 1), (0, 5, 2, 1), (0, 5, 1, 1)]),
+        // an earlier deadline preempts
+        Day::new(9, &[0; 6], &[(0, 6, 3, 1), (1, 3, 2, 1)]),
+        // a level one short of full spills too
+        Day::new(4, &[0, 3, 0, 0, 0, 0], &[(0, 6, 2, 1), (3, 5, 2, 2)]),
+        // the largest numbers: level + harvest above 65,535
+        Day::new(65535, &[255; 6], &[(0, 6, 3, 255), (1, 4, 2, 255)]),
+        // the largest energy demand of one job
+        Day::new(65535, &[255; 3], &[(0, 3, 1440, 255)]),
+        Day::new(65535, &[255; 3], &[(0, 3, 3, 255), (0, 3, 1440, 1)]),
+        // energy demand above 65,535, and energy supply too
+        Day::new(100, &[0; 260], &[(0, 260, 258, 255)]),
+        Day::new(65535, &[1; 260], &[(0, 260, 258, 255)]),
+        // no jobs, some slots
+        Day::new(3, &[0, 9, 0], &[]),
+    ]
+}
+
+// ------------------------------------------------------------------------------------------
+// Making a case file
+// ------------------------------------------------------------------------------------------
+
+/// A linear congruential generator with a fixed seed.
+struct Dice {
+    state: u64,
+}
+
+impl Dice {
+    /// A number from 0 to `limit` - 1.
+    fn below(&mut self, limit: i64) -> i64 {
+        self.state = self.state.wrapping_mul(6364136223846793005).wrapping_add(1442695040888963407);
+        ((self.state >> 33) % limit as u64) as i64
+    }
+
+    /// A number from `low` to `high`.
+    fn between(&mut self, low: i64, high: i64) -> i64 {
+        low + self.below(high - low + 1)
+    }
+
+    fn one_in(&mut self, many: i64) -> bool {
+        self.below(many) == 0
+    }
+
+    fn byte(&mut self) -> u8 {
+        self.below(256) as u8
+    }
+
+    fn bytes(&mut self, length: i64) -> Vec<u8> {
+        (0..length).map(|_| self.byte()).collect()
+    }
+}
+
+/// A day that is not refused: up to 8 jobs and up to 16 slots.
+fn random_day(dice: &mut Dice) -> Day {
+    let slots = dice.between(1, 16);
+    let most_harvest = [0, 1, 2, 3, 3, 8][dice.below(6) as usize];
+    let most_capacity = [0, 1, 3, 6, 10, 20][dice.below(6) as usize];
+    let most_energy = [1, 2, 3, 4, 8][dice.below(5) as usize];
+    let mut day = Day {
+        jobs: Vec::new(),
+        capacity: dice.between(0, most_capacity),
+        harvest: (0..slots).map(|_| dice.between(0, most_harvest) as u8).collect(),
+    };
+    let most_jobs = [2, 4, 6, 8][dice.below(4) as usize];
+    for _ in 0..dice.between(0, most_jobs) {
+        let release = dice.below(slots);
+        let deadline = dice.between(release + 1, slots);
+        let most_wanted = if dice.one_in(12) { 20 } else { (deadline - release).min(4) };
+        let wanted = dice.between(1, most_wanted);
+        day.jobs.push(Job { release, deadline, wanted, energy: dice.between(1, most_energy) });
+    }
+    day
+}
+
+/// Energy 1 in every job, harvest 0 or 1 in every slot.
+fn even_day(dice: &mut Dice) -> Day {
+    let mut day = random_day(dice);
+    for job in day.jobs.iter_mut() {
+        job.energy = 1;
+    }
+    for byte in day.harvest.iter_mut() {
+        *byte = dice.below(2) as u8;
+    }
+    day
+}
+
+/// At most two different deadlines.
+fn tied_day(dice: &mut Dice) -> Day {
+    let mut day = random_day(dice);
+    let slots = day.slots();
+    let middle = dice.between(1, slots);
+    for job in day.jobs.iter_mut() {
+        job.deadline = if dice.one_in(2) { middle } else { slots };
+        job.release = dice.below(job.deadline);
+        job.wanted = dice.between(1, 2);
+    }
+    day
+}
+
+/// Energies, harvest and capacity anywhere in their ranges.
+fn wide_day(dice: &mut Dice) -> Day {
+    let mut day = random_day(dice);
+    day.capacity = if dice.one_in(3) { dice.below(65536) } else { dice.below(2000) };
+    for job in day.jobs.iter_mut() {
+        job.energy = dice.between(1, 255);
+    }
+    for byte in day.harvest.iter_mut() {
+        *byte = dice.byte();
+    }
+    day
+}
+
+/// 64 jobs, 1,440 slots; `load` scales the slots wanted.
+fn large_day(dice: &mut Dice, load: i64) -> Day {
+    let mut day = Day { jobs: Vec::new(), capacity: 250, harvest: Vec::new() };
+    for _ in 0..MOST_SLOTS {
+        day.harvest.push(dice.below(10) as u8);
+    }
+    for number in 0..MOST_JOBS {
+        let release = dice.below(1340);
+        let deadline = if number == 40 { MOST_SLOTS } else { release + 60 + dice.below(41) };
+        let (wanted, energy) = (dice.between(1, load), dice.between(1, 20));
+        day.jobs.push(Job { release, deadline, wanted, energy });
+    }
+    day
+}
+
+/// Days of one sort until one passes the test.
+fn day_with(dice: &mut Dice, sort: fn(&mut Dice) -> Day, test: impl Fn(&Day) -> bool) -> Day {
+    loop {
+        let day = sort(dice);
+        if test(&day) {
+            return day;
+        }
+    }
+}
+
+fn is_overloaded_in(day: &Day, kind: Kind) -> bool {
+    matches!(day.answer(), Answer::Overloaded(overload) if overload.kind == kind)
+}
+
+fn is_undecided(day: &Day) -> bool {
+    matches!(day.answer(), Answer::Undecided(_))
+}
+
+/// Not overloaded, and some slot of the run carries that ground.
+fn shows(day: &Day, ground: &str) -> bool {
+    !matches!(day.answer(), Answer::Overloaded(_))
+        && run(&day.table(), &day.harvest).iter().any(|slot| ground_word(slot.0) == ground)
+}
+
+/// The i-th of a run of days in which every answer and ground has its turn.
+fn day_in_turn(dice: &mut Dice, i: usize) -> Day {
+    let sorts = [random_day, tied_day, random_day, even_day, random_day, wide_day, random_day];
+    let sort = sorts[i % sorts.len()];
+    match i % 10 {
+        0 => day_with(dice, random_day, |day| is_overloaded_in(day, Kind::Time)),
+        1 => day_with(dice, sort, |day| is_overloaded_in(day, Kind::Energy)),
+        2 => day_with(dice, random_day, is_undecided),
+        3 => day_with(dice, sort, |day| day.answer() == Answer::Met && day.jobs.len() > 1),
+        4 => day_with(dice, sort, |day| shows(day, "noslack")),
+        5 => day_with(dice, random_day, |day| shows(day, "saving")),
+        6 => day_with(dice, random_day, |day| shows(day, "saving") && shows(day, "noslack")),
+        7 => day_with(dice, random_day, |day| is_undecided(day) && shows(day, "empty")),
+        8 => day_with(dice, sort, |day| shows(day, "full") && shows(day, "free")),
+        _ => sort(dice),
+    }
+}
+
+/// `T` with a count and a slot number of its own, which need not fit the jobs and harvest.
+fn table_payload(count: i64, slots: i64, capacity: i64, given: &[Job], harvest: &[u8]) -> Vec<u8> {
+    let mut payload = Vec::new();
+    payload.extend(little_endian(count));
+    payload.extend(little_endian(slots));
+    payload.extend(little_endian(capacity));
+    assert!(given.len() as i64 <= MOST_JOBS);
+    payload.push(given.len() as u8);
+    for job in given {
+        payload.extend(little_endian(job.release));
+        payload.extend(little_endian(job.deadline));
+        payload.extend(little_endian(job.wanted));
+        payload.push(job.energy as u8);
+    }
+    payload.extend(little_endian(harvest.len() as i64));
+    payload.extend(harvest);
+    payload
+}
+
+fn day_payload(day: &Day) -> Vec<u8> {
+    table_payload(day.jobs.len() as i64, day.slots(), day.capacity, &day.jobs, &day.harvest)
+}
+
+/// The case file while it grows.
+struct CaseFile {
+    bytes: Vec<u8>,
+    counts: [i64; 256],
+}
+
+impl CaseFile {
+    fn add(&mut self, kind: u8, payload: &[u8]) {
+        self.bytes.push(kind);
+        self.bytes.extend(little_endian(payload.len() as i64));
+        self.bytes.extend(payload);
+        self.counts[kind as usize] += 1;
+    }
+
+    fn count(&self, kind: u8) -> i64 {
+        self.counts[kind as usize]
+    }
+
+    fn read(&mut self, sheet: &[u8]) {
+        self.add(b'R', sheet);
+    }
+
+    fn write(&mut self, room: i64, table: &[u8]) {
+        self.add(b'W', &[&little_endian(room)[..], table].concat());
+    }
+
+    fn plan_sheet(&mut self, room: i64, sheet: &[u8]) {
+        self.add(b'P', &[&little_endian(room)[..], sheet].concat());
+    }
+
+    fn plan_table(&mut self, room: i64, table: &[u8]) {
+        self.add(b'Q', &[&little_endian(room)[..], table].concat());
+    }
+
+    fn step(&mut self, state: &State, table: &[u8]) {
+        let mut payload = Vec::new();
+        payload.extend(little_endian(state.slot));
+        payload.extend(little_endian(state.level));
+        for left in state.left {
+            payload.extend(little_endian(left));
+        }
+        payload.extend(table);
+        self.add(b'S', &payload);
+    }
+
+    /// A step from every state the day's run passes through, and one from its end.
+    fn steps_of(&mut self, day: &Day) {
+        let table = day_payload(day);
+        self.step(&first_state(&day.table()), &table);
+        for (_, state) in run(&day.table(), &day.harvest) {
+            self.step(&state, &table);
+        }
+    }
+}
+
+/// The paper's days and the telling ones, in every kind of case.
+fn add_known_days(file: &mut CaseFile) {
+    for day in paper_days() {
+        let length = day.sheet().len() as i64;
+        let slots = day.slots();
+        file.read(&day.sheet());
+        file.write(length, &day_payload(&day));
+        file.write(length + 3, &day_payload(&day));
+        file.plan_sheet(slots, &day.sheet());
+        file.plan_sheet(slots + 1, &day.sheet());
+        file.plan_table(slots, &day_payload(&day));
+        file.steps_of(&day);
+    }
+    for day in telling_days() {
+        file.read(&day.sheet());
+        file.plan_sheet(day.slots(), &day.sheet());
+        file.plan_table(day.slots(), &day_payload(&day));
+    }
+    for day in &telling_days()[..5] {
+        file.steps_of(day);
+    }
+}
+
+/// A trailer with numbers of its own.
+fn trailer(to_harvest: i64, to_jobs: i64, jobs: i64, slots: i64, capacity: i64) -> Vec<u8> {
+    let mut bytes = Vec::new();
+    for number in [to_harvest, to_jobs, jobs, slots, capacity] {
+        bytes.extend(little_endian(number));
+    }
+    bytes.extend(MARK);
+    bytes
+}
+
+/// The sheet with one byte set.
+fn with_byte(sheet: &[u8], at: usize, byte: u8) -> Vec<u8> {
+    let mut sheet = sheet.to_vec();
+    sheet[at] = byte;
+    sheet
+}
+
+/// The sheet with a little-endian number set; a place below 0 counts from the sheet's end.
+fn with_number(sheet: &[u8], at: i64, number: i64) -> Vec<u8> {
+    let at = if at < 0 { sheet.len() as i64 + at } else { at } as usize;
+    let mut sheet = sheet.to_vec();
+    sheet[at..at + 2].copy_from_slice(&little_endian(number));
+    sheet
+}
+
+// Places in the trailer, from the end of the sheet.
+const TO_HARVEST: i64 = -12;
+const TO_JOBS: i64 = -10;
+const JOBS: i64 = -8;
+const SLOTS: i64 = -6;
+const CAPACITY: i64 = -4;
+
+/// Sheets at the limits and sheets for each refusal of the reader, and for which comes first.
+fn telling_sheets() -> Vec<Vec<u8>> {
+    let day = Day::new(3, &[1, 0, 2, 0], &[(0, 4, 1, 1), (1, 2, 1, 1), (2, 4, 1, 2)]);
+    let good = day.sheet();
+    let mut sheets = Vec::new();
+
+    // 1, also with a good mark at the end
+    sheets.push(vec![]);
+    sheets.push(vec![0x45]);
+    sheets.push(MARK.to_vec());
+    sheets.push(vec![0; 11]);
+    sheets.push(trailer(1, 1, 0, 1, 0)[1..].to_vec());
+    // 2, before 3 and 4
+    sheets.push(vec![0; 12]);
+    sheets.push(with_byte(&trailer(1, 1, 0, 1, 0), 10, 0x44));
+    sheets.push(with_byte(&trailer(1, 1, 0, 1, 0), 11, 0x45));
+    sheets.push(with_number(&good, -2, 0x4548));
+    sheets.push(with_number(&with_number(&good, JOBS, 65), -2, 0));
+    sheets.push(with_number(&with_number(&good, TO_JOBS, 65), -2, 0));
+    // 3, before 4
+    sheets.push(trailer(0, 0, 0, 0, 0));
+    sheets.push(with_number(&good, JOBS, 65));
+    sheets.push(with_number(&good, JOBS, 65535));
+    sheets.push(with_number(&good, JOBS, 256));
+    sheets.push(with_number(&good, SLOTS, 0));
+    sheets.push(with_number(&good, SLOTS, 1441));
+    sheets.push(with_number(&good, SLOTS, 65535));
+    sheets.push(trailer(4, 524, 65, 4, 7));
+    sheets.push(trailer(0, 8, 1, 0, 7));
+    sheets.push([&good[..8], &trailer(0, 8, 1, 0, 7)[..]].concat());
+    // 4, each test of it, before the records
+    sheets.push(trailer(1, 1, 0, 1, 0));
+    sheets.push(with_number(&good, JOBS, 64));
+    sheets.push(with_number(&good, JOBS, 2));
+    sheets.push(with_number(&good, SLOTS, 1440));
+    sheets.push(with_number(&good, SLOTS, 3));
+    sheets.push(with_number(&good, TO_HARVEST, 3));
+    sheets.push(with_number(&good, TO_HARVEST, 5));
+    sheets.push(with_number(&good, TO_HARVEST, 4 + 256));
+    sheets.push(with_number(&good, TO_JOBS, 27));
+    sheets.push(with_number(&good, TO_JOBS, 29));
+    sheets.push(with_number(&good, TO_JOBS, 28 + 256));
+    sheets.push(good[1..].to_vec());
+    sheets.push(good[8..].to_vec());
+    sheets.push([&[0][..], &good[..]].concat());
+    sheets.push([&good[..8], &good[..]].concat());
+    sheets.push(with_number(&with_number(&good, 2, 0), TO_HARVEST, 5));
+    sheets.push(with_number(&with_number(&good, 4, 0), TO_JOBS, 5));
+    // an empty day, in two sizes
+    sheets.push([&[9][..], &trailer(1, 1, 0, 1, 65535)[..]].concat());
+    sheets.push([&[9, 255][..], &trailer(2, 2, 0, 2, 0)[..]].concat());
+    // capacity is never refused
+    sheets.push(with_number(&good, CAPACITY, 0));
+    sheets.push(with_number(&good, CAPACITY, 65535));
+    // 5
+    sheets.push(with_number(&good, 8, 2)); // release equal to the deadline
+    sheets.push(with_number(&good, 8, 3)); // release above the deadline
+    sheets.push(with_number(&good, 8, 65535));
+    sheets.push(with_number(&good, 10, 4)); // deadline equal to slots
+    sheets.push(with_number(&good, 10, 5)); // deadline one more
+    sheets.push(with_number(&good, 10, 65535));
+    sheets.push(with_number(&good, 10, 0));
+    // 6
+    sheets.push(with_number(&good, 4, 0));
+    sheets.push(with_number(&good, 4, 1440));
+    sheets.push(with_number(&good, 4, 1441));
+    sheets.push(with_number(&good, 4, 65535));
+    sheets.push(with_byte(&good, 6, 0));
+    sheets.push(with_byte(&good, 6, 255));
+    sheets.push(with_byte(&good, 7, 1));
+    sheets.push(with_byte(&good, 23, 255));
+    // both in one record is 5; 6 in an earlier record comes before 5 in a later one
+    sheets.push(with_number(&with_number(&good, 8, 2), 12, 0));
+    sheets.push(with_byte(&with_number(&good, 18, 5), 23, 1));
+    sheets.push(with_number(&with_number(&good, 4, 0), 10, 5));
+    sheets.push(with_byte(&with_number(&good, 8, 3), 7, 1));
+    sheets.push(with_byte(&with_number(&good, 16, 4), 14, 0));
+    sheets.push(with_byte(&with_number(&good, 8, 3), 22, 0));
+    sheets
+}
+
+/// The limits that need more bytes: 64 and 65 jobs, 1,440 and 1,441 slots.
+fn limit_sheets() -> Vec<Vec<u8>> {
+    let many = |count: usize| Day::new(80, &[1, 2, 3], &vec![(0, 3, 1, 1); count]).sheet();
+    let mut last_bad = many(64);
+    last_bad[63 * 8 + 7] = 1;
+    let wide = |slots: usize, deadline: i64| {
+        Day::new(1, &vec![1; slots], &[(1439, deadline, 1440, 1)]).sheet()
+    };
+    vec![many(64), many(65), last_bad, wide(1440, 1440), wide(1440, 1441), wide(1441, 1441)]
+}
+
+/// Tables for each refusal and for which comes first, with the harvest that goes with them.
+fn telling_tables() -> Vec<Vec<u8>> {
+    let jobs = Day::new(0, &[], &[(0, 4, 1, 1), (1, 2, 1, 1), (2, 4, 1, 2)]).jobs;
+    let with = |number: usize, release: i64, deadline: i64, wanted: i64, energy: i64| {
+        let mut jobs = jobs.clone();
+        jobs[number] = Job { release, deadline, wanted, energy };
+        jobs
+    };
+    let mut six_then_five = with(0, 0, 4, 0, 1);
+    six_then_five[1].deadline = 5;
+    let four = [1, 0, 2, 0];
+    vec![
+        table_payload(3, 4, 3, &jobs, &four),
+        // 3, before 4 and the records
+        table_payload(65, 4, 3, &jobs, &four),
+        table_payload(256, 4, 3, &jobs, &four),
+        table_payload(65535, 4, 3, &jobs, &four),
+        table_payload(3, 0, 3, &jobs, &four),
+        table_payload(0, 0, 3, &jobs, &[]),
+        table_payload(3, 1441, 3, &jobs, &four),
+        table_payload(65, 5, 3, &jobs, &four),
+        table_payload(65535, 65535, 65535, &[], &[]),
+        // 4, before the records
+        table_payload(3, 5, 3, &jobs, &four),
+        table_payload(3, 3, 3, &jobs, &four),
+        table_payload(3, 4, 3, &jobs, &[]),
+        table_payload(64, 4, 3, &jobs, &[1, 2, 3]),
+        table_payload(3, 4, 3, &with(0, 0, 5, 1, 1), &[1, 2, 3]),
+        table_payload(3, 4, 3, &with(0, 0, 5, 1, 1), &[1, 2, 3, 4, 5]),
+        // count above the given jobs: the zero job there is 5; count below: the rest is unread
+        table_payload(4, 4, 3, &jobs, &four),
+        table_payload(64, 4, 3, &jobs, &four),
+        table_payload(2, 4, 3, &jobs, &four),
+        table_payload(0, 4, 3, &jobs, &four),
+        table_payload(2, 4, 3, &with(2, 9, 3, 0, 0), &four),
+        table_payload(1, 4, 3, &with(1, 65535, 65535, 65535, 255), &four),
+        table_payload(1, 1, 0, &[], &[7]),
+        // 5
+        table_payload(3, 4, 3, &with(0, 4, 4, 1, 1), &four),
+        table_payload(3, 4, 3, &with(1, 3, 2, 1, 1), &four),
+        table_payload(3, 4, 3, &with(2, 2, 5, 1, 1), &four),
+        table_payload(3, 4, 3, &with(2, 3, 4, 1, 1), &four),
+        table_payload(3, 4, 3, &with(2, 0, 65535, 1, 1), &four),
+        // 6
+        table_payload(3, 4, 3, &with(0, 0, 4, 0, 1), &four),
+        table_payload(3, 4, 3, &with(1, 0, 4, 1440, 1), &four),
+        table_payload(3, 4, 3, &with(1, 0, 4, 1441, 1), &four),
+        table_payload(3, 4, 3, &with(2, 0, 4, 1, 0), &four),
+        table_payload(3, 4, 3, &with(2, 0, 4, 65535, 255), &four),
+        // both in one record is 5; 6 in record 0 comes before 5 in record 1
+        table_payload(3, 4, 3, &with(1, 2, 2, 0, 0), &four),
+        table_payload(3, 4, 3, &six_then_five, &four),
+    ]
+}
+
+/// The refusals of every call, and the rooms for 7 and 8.
+fn add_refusals(file: &mut CaseFile) {
+    for sheet in telling_sheets() {
+        file.read(&sheet);
+    }
+    for (i, sheet) in telling_sheets().iter().enumerate() {
+        // 4 is the good plan room; elsewhere 7 would stand, were it not last
+        if i % 3 == 0 {
+            file.plan_sheet(4, sheet);
+        } else if i % 3 == 1 {
+            file.plan_sheet(3, sheet);
+        }
+    }
+    for sheet in limit_sheets() {
+        file.read(&sheet);
+    }
+    let middle = State { slot: 1, level: 2, left: [1; MOST_JOBS as usize] };
+    let past = State { slot: 4, level: 9, left: [2; MOST_JOBS as usize] };
+    for (i, table) in telling_tables().iter().enumerate() {
+        // three jobs and four slots need 40 bytes: room 0 shows that 8 comes last
+        file.write(if i % 2 == 0 { 44 } else { 0 }, table);
+        file.plan_table(if i % 2 == 0 { 4 } else { 5 }, table);
+        file.step(if i % 2 == 0 { &middle } else { &past }, table);
+    }
+    let good = &telling_tables()[0];
+    for room in [0, 11, 12, 39, 40, 41, 2100] {
+        file.write(room, good);
+    }
+    for room in [0, 3, 5, 260, 1500] {
+        file.plan_sheet(room, &paper_days()[0].sheet());
+        file.plan_table(room, good);
+    }
+    for day in &paper_days()[1..4] {
+        // overloaded with a wrong room is 7
+        file.plan_table(day.slots() + 1, &day_payload(day));
+        file.plan_sheet(0, &day.sheet());
+    }
+}
+
+/// Steps from states no run passes through.
+fn add_odd_states(file: &mut CaseFile) {
+    let day = Day::new(4, &[0, 0, 2, 1, 0, 3], &[(0, 6, 3, 2), (2, 4, 1, 3), (1, 3, 2, 1)]);
+    let table = day_payload(&day);
+    let state = |slot: i64, level: i64, left: [i64; 3]| {
+        let mut state = State { slot, level, left: [7; MOST_JOBS as usize] };
+        state.left[..3].copy_from_slice(&left);
+        state
+    };
+    // day over
+    for slot in [6, 7, 1440, 65535] {
+        file.step(&state(slot, 3, [3, 1, 2]), &table);
+    }
+    // the last slot, and the level at, one short of and above capacity
+    for level in [0, 1, 2, 3, 4, 5, 65535] {
+        file.step(&state(5, level, [1, 0, 0]), &table);
+        file.step(&state(0, level, [3, 1, 2]), &table);
+        file.step(&state(2, level, [0, 0, 0]), &table);
+    }
+    // left above wanted, and finished jobs not yet released
+    file.step(&state(0, 4, [65535, 65535, 65535]), &table);
+    file.step(&state(0, 4, [5, 0, 0]), &table);
+    file.step(&state(0, 3, [2, 0, 0]), &table);
+    file.step(&state(0, 4, [6, 0, 0]), &table);
+    file.step(&state(0, 4, [7, 0, 0]), &table);
+    file.step(&state(1, 4, [0, 9, 3]), &table);
+    // no slack time by a job not yet released alone
+    file.step(&state(0, 3, [1, 4, 0]), &table);
+    file.step(&state(0, 3, [1, 3, 0]), &table);
+    file.step(&state(1, 3, [1, 3, 0]), &table);
+    // sums of what is left above 65,535
+    file.step(&state(0, 4, [32768, 0, 32768]), &table);
+    file.step(&state(1, 3, [65534, 1, 1]), &table);
+    // a finished job released in this very slot does not count into slack energy
+    file.step(&state(1, 4, [1, 1, 0]), &table);
+    file.step(&state(1, 3, [1, 1, 0]), &table);
+    // a job whose deadline has come: neither run nor counted
+    file.step(&state(3, 3, [2, 1, 60000]), &table);
+    file.step(&state(4, 3, [1, 50, 60]), &table);
+    file.step(&state(4, 3, [0, 50, 60]), &table);
+    file.step(&state(5, 1, [2, 1, 1]), &table);
+    // slack energy below 0, and a demand in it above 65,535
+    let owing = Day::new(2000, &[0; 6], &[(0, 6, 1, 1), (2, 4, 2, 4), (0, 6, 1, 1)]);
+    for level in [1, 7, 8, 9] {
+        file.step(&state(0, level, [1, 2, 0]), &day_payload(&owing));
+    }
+    let owing = Day::new(2000, &[0; 6], &[(0, 6, 1, 1), (2, 4, 258, 255)]);
+    for level in [253, 300, 2000] {
+        file.step(&state(0, level, [1, 1, 0]), &day_payload(&owing));
+    }
+}
+
+/// The eight cases with 64 jobs and 1,440 slots.
+fn add_large(file: &mut CaseFile, dice: &mut Dice) {
+    let light = |dice: &mut Dice| large_day(dice, 14);
+    let met = day_with(dice, light, |day| day.answer() == Answer::Met && shows(day, "saving"));
+    let short = |dice: &mut Dice| large_day(dice, 20);
+    let undecided = day_with(dice, short, is_undecided);
+    let heavy = |dice: &mut Dice| large_day(dice, 40);
+    let overloaded = day_with(dice, heavy, |day| matches!(day.answer(), Answer::Overloaded(_)));
+    assert_eq!(met.sheet().len(), 1964);
+    file.read(&met.sheet());
+    file.write(1964, &day_payload(&undecided));
+    file.write(1963, &day_payload(&met));
+    file.plan_sheet(1440, &undecided.sheet());
+    file.plan_sheet(1440, &overloaded.sheet());
+    file.plan_table(1440, &day_payload(&met));
+    let slots = run(&met.table(), &met.harvest);
+    let saving = slots.iter().rposition(|slot| ground_word(slot.0) == "saving").unwrap();
+    file.step(&slots[saving - 1].1, &day_payload(&met));
+    let most = State { slot: 700, level: 65535, left: [65535; MOST_JOBS as usize] };
+    file.step(&most, &day_payload(&overloaded));
+}
+
+/// A sheet that was good: one byte changed, cut or extended.
+fn damaged_sheet(dice: &mut Dice, sheet: &[u8]) -> Vec<u8> {
+    let length = sheet.len() as i64;
+    match dice.below(8) {
+        0 => sheet[..dice.below(length) as usize].to_vec(),
+        1 => sheet[dice.between(1, length) as usize..].to_vec(),
+        2 => {
+            let more = dice.between(1, 9);
+            [sheet, &dice.bytes(more)[..]].concat()
+        }
+        3 => {
+            let more = dice.between(1, 9);
+            [&dice.bytes(more)[..], sheet].concat()
+        }
+        4 => {
+            let at = length - 12 + dice.below(12);
+            with_byte(sheet, at as usize, dice.between(0, 5) as u8)
+        }
+        _ => {
+            // in a record where there is one
+            let records = number_at(sheet, length - 8) * RECORD_BYTES;
+            let at = if records > 0 { dice.below(records) } else { dice.below(length) } as usize;
+            let byte = if dice.one_in(3) { dice.byte() } else { dice.below(4) as u8 };
+            let changed = if byte == sheet[at] { byte ^ 1 } else { byte };
+            with_byte(sheet, at, changed)
+        }
+    }
+}
+
+/// Bytes of length 0 to 60: nothing right, a good mark, or a trailer that fits the length.
+fn garbage(dice: &mut Dice) -> Vec<u8> {
+    let length = dice.below(61);
+    let mut bytes = dice.bytes(length);
+    let end = bytes.len();
+    match dice.below(4) {
+        0 => {}
+        1 if end >= 2 => bytes[end - 2..].copy_from_slice(&MARK),
+        _ if end >= 13 => {
+            let body = end as i64 - 12;
+            let jobs = dice.between(0, (body - 1) / RECORD_BYTES);
+            let slots = body - RECORD_BYTES * jobs;
+            let off = if dice.one_in(3) { dice.below(3) } else { 0 };
+            let capacity = dice.below(65536);
+            let fitting = trailer(slots, slots + 8 * jobs + off, jobs, slots, capacity);
+            bytes[end - 12..].copy_from_slice(&fitting);
+            // records of small numbers, so that some are good
+            for at in 0..8 * jobs as usize {
+                bytes[at] = match at % 8 {
+                    1 | 3 | 5 => 0,
+                    7 => dice.one_in(6) as u8,
+                    _ => dice.below(slots.min(9) + 2) as u8,
+                };
+            }
+        }
+        _ => {}
+    }
+    bytes
+}
+
+/// A table of a day with something odd about it: the count, the slots, a job, the harvest or
+/// what stands beyond the last job.
+fn odd_table(dice: &mut Dice, day: &Day) -> Vec<u8> {
+    let mut count = day.jobs.len() as i64;
+    let mut slots = day.slots();
+    let mut jobs = day.jobs.clone();
+    let mut harvest = day.harvest.clone();
+    match dice.below(7) {
+        0 => count = dice.below(10),
+        1 => count = [63, 64, 65, 66, 127, 128, 255, 256, 512, 65535][dice.below(10) as usize],
+        2 => slots = (slots + dice.between(-2, 2)).max(0),
+        3 => harvest.push(dice.byte()),
+        4 if count > 0 => {
+            let job = &mut jobs[dice.below(count) as usize];
+            match dice.below(5) {
+                0 => job.release = dice.below(20),
+                1 => job.deadline = dice.below(20),
+                2 => job.wanted = [0, 1440, 1441, 65535][dice.below(4) as usize],
+                3 => job.energy = 0,
+                _ => *job = ZERO_JOB,
+            }
+        }
+        _ => {
+            // jobs beyond the last one, which nothing may look at
+            for _ in 0..dice.between(1, 4) {
+                let (release, deadline) = (dice.below(18), dice.below(18));
+                jobs.push(Job { release, deadline, wanted: dice.below(5), energy: dice.below(3) });
+            }
+        }
+    }
+    table_payload(count, slots, day.capacity, &jobs, &harvest)
+}
+
+/// Some state for a day: in about half of them nothing is odd.
+fn random_state(dice: &mut Dice, day: &Day) -> State {
+    let past = dice.one_in(25);
+    let slot = if past { day.slots() + dice.below(3) } else { dice.below(day.slots()) };
+    let above = dice.one_in(6);
+    let level = if above { day.capacity + dice.below(10) } else { dice.between(0, day.capacity) };
+    let mut state = State { slot, level: level.min(65535), left: [0; MOST_JOBS as usize] };
+    let odd = dice.one_in(3);
+    for place in 0..state.left.len() {
+        state.left[place] = match day.jobs.get(place) {
+            Some(job) if odd => dice.below(job.wanted + 4),
+            Some(job) if job.release > state.slot => job.wanted,
+            Some(job) => dice.between(0, job.wanted),
+            None if odd => dice.below(65536),
+            None => 0,
+        };
+    }
+    state
+}
+
+/// The step from there carries that ground, which its rule only just gives: one more or one
+/// less, and another rule would have decided.
+fn only_just(day: &Day, state: &State, ground: &str) -> bool {
+    let table = day.table();
+    let taken = match step(&table, &day.harvest, state) {
+        Ok(Step::Taken(decision, _)) => decision,
+        _ => return false,
+    };
+    if ground_word(taken) != ground {
+        return false;
+    }
+    let chosen = match chosen_job(&table, state) {
+        None => return true,
+        Some(chosen) => chosen,
+    };
+    let energy = day.jobs[chosen].energy;
+    let charge = state.level + day.harvest[state.slot as usize] as i64;
+    match ground {
+        "empty" => charge == energy - 1,
+        "full" => charge == day.capacity + 1,
+        "noslack" => slack_time(&table, state) == Some(0),
+        "saving" => slack_energy(&table, &day.harvest, state, chosen) == Some(energy - 1),
+        "free" => slack_energy(&table, &day.harvest, state, chosen) == Some(energy),
+        _ => false,
+    }
+}
+
+/// The step from there is `saving` with a slack energy below 0.
+fn owes(day: &Day, state: &State) -> bool {
+    let table = day.table();
+    let saving = Decision::Idle(IdleWhy::Saving);
+    matches!(step(&table, &day.harvest, state), Ok(Step::Taken(taken, _)) if taken == saving)
+        && chosen_job(&table, state)
+            .and_then(|chosen| slack_energy(&table, &day.harvest, state, chosen))
+            .map_or(false, |slack| slack < 0)
+}
+
+/// The i-th of a run of steps in which every ground has its turn, in many of them only just.
+fn add_random_step(file: &mut CaseFile, dice: &mut Dice, i: usize) {
+    let turns = [
+        "saving", "free", "noslack", "odd", "saving", "free", "full", "any", "saving", "free",
+        "empty", "odd", "none", "saving", "free", "noslack", "owing", "any",
+    ];
+    let turn = turns[i % turns.len()];
+    let sorts = [random_day, tied_day, random_day, even_day, random_day, wide_day];
+    loop {
+        let day = sorts[dice.below(6) as usize](dice);
+        let state = random_state(dice, &day);
+        if turn == "odd" {
+            return file.step(&state, &odd_table(dice, &day));
+        }
+        let fits = match turn {
+            "any" => true,
+            "owing" => owes(&day, &state),
+            _ => only_just(&day, &state, turn),
+        };
+        if fits && day.jobs.len() > 1 {
+            return file.step(&state, &day_payload(&day));
+        }
+    }
+}
+
+/// Random cases until there are that many of the kind.
+fn add_random(file: &mut CaseFile, dice: &mut Dice) {
+    let mut i = 0;
+    while file.count(b'R') < 250 {
+        let day = day_in_turn(dice, i);
+        match i % 3 {
+            0 => file.read(&[random_day, wide_day][i % 2](dice).sheet()),
+            1 => file.read(&damaged_sheet(dice, &day.sheet())),
+            _ => file.read(&garbage(dice)),
+        }
+        i += 1;
+    }
+    i = 0;
+    while file.count(b'W') < 120 {
+        let day = [random_day, wide_day][i % 2](dice);
+        let length = day.sheet().len() as i64;
+        match i % 4 {
+            0 => file.write(length + dice.between(-2, 20), &day_payload(&day)),
+            1 => file.write(dice.below(length + 5), &day_payload(&day)),
+            2 => file.write(length, &day_payload(&day)),
+            _ => file.write(length + 40, &odd_table(dice, &day)),
+        }
+        i += 1;
+    }
+    i = 0;
+    while file.count(b'P') < 250 {
+        let day = day_in_turn(dice, i);
+        match i % 12 {
+            7 => file.plan_sheet(day.slots(), &damaged_sheet(dice, &day.sheet())),
+            11 if i % 24 == 11 => file.plan_sheet(dice.below(17), &day.sheet()),
+            11 => file.plan_sheet(dice.below(9), &garbage(dice)),
+            _ => file.plan_sheet(day.slots(), &day.sheet()),
+        }
+        i += 1;
+    }
+    i = 0;
+    while file.count(b'Q') < 105 {
+        let day = day_in_turn(dice, i + 2);
+        if i % 3 == 0 {
+            file.plan_table(day.slots(), &odd_table(dice, &day));
+        } else {
+            file.plan_table(day.slots(), &day_payload(&day));
+        }
+        i += 1;
+    }
+    i = 0;
+    while file.count(b'S') < 275 {
+        add_random_step(file, dice, i);
+        i += 1;
+    }
+}
+
+fn make_cases() -> CaseFile {
+    let mut file = CaseFile { bytes: Vec::new(), counts: [0; 256] };
+    let mut dice = Dice { state: 2026 };
+    add_known_days(&mut file);
+    add_refusals(&mut file);
+    add_odd_states(&mut file);
+    add_random(&mut file, &mut dice);
+    add_large(&mut file, &mut dice);
+    file
+}
+
+// ------------------------------------------------------------------------------------------
+// The self-test
+// ------------------------------------------------------------------------------------------
+
+const DAY_1_SHEET: [u8; 32] = [
+    0x00, 0x00, 0x04, 0x00, 0x01, 0x00, 0x01, 0x00, 0x01, 0x00, 0x02, 0x00, 0x01, 0x00, 0x01, 0x00,
+    0x00, 0x00, 0x01, 0x00, 0x04, 0x00, 0x14, 0x00, 0x02, 0x00, 0x04, 0x00, 0x01, 0x00, 0x45, 0x48,
+];
+
+const DAY_1_LISTING: &str = "\
+day slots 4 jobs 2 capacity 1
+slot 0 idle saving level 1
+slot 1 job 1 noslack level 0
+slot 2 job 0 free level 0
+slot 3 idle none level 0
+verdict met
+";
+
+/// Day, what the planner answers, and the plan (an empty one: the buffer is untouched).
+const PAPER_ANSWERS: [(usize, &str, &[u8]); 8] = [
+    (1, "met", &[0xFF, 0x01, 0x00, 0xFF]),
+    (2, "energy 0 4 demand 2 supply 1", &[]),
+    (3, "time 0 1 demand 2 supply 1", &[]),
+    (4, "time 0 1 demand 2 supply 1", &[]),
+    (5, "undecided job 1", &[0x00, 0x01, 0x01, 0x01, 0xFF, 0x00, 0x00, 0xFF, 0xFF]),
+    (6, "time 0 2 demand 3 supply 2", &[]),
+    (7, "met", &[0xFF]),
+    (8, "met", &[0x00, 0x00]),
+];
+
+fn test_paper_days() {
+    let days = paper_days();
+    assert_eq!(days[0].sheet(), DAY_1_SHEET);
+    assert_eq!(day_listing(&DAY_1_SHEET), DAY_1_LISTING);
+    for (number, words, wanted_plan) in PAPER_ANSWERS {
+        let day = &days[number - 1];
+        let untouched = vec![FILL; day.harvest.len()];
+        let mut plan = untouched.clone();
+        let answer = plan_sheet(&day.sheet(), &mut plan).unwrap();
+        assert_eq!(answer_words(answer), words, "day {number}");
+        if wanted_plan.is_empty() {
+            assert_eq!(plan, untouched, "day {number}");
+            let listing = day_listing(&day.sheet());
+            assert!(listing.ends_with(&format!("\nverdict {words}\n")), "day {}", number);
+            assert_eq!(listing.lines().count(), 2, "day {number}");
+        } else {
+            assert_eq!(plan, wanted_plan, "day {number}");
+        }
+    }
+}
+
+fn test_day_program() {
+    assert_eq!(day_listing(&[]), "refused 1\n");
+    assert_eq!(day_listing(&vec![0; 4096]), "refused 2\n");
+    assert_eq!(day_listing(&vec![0; 4097]), "too long\n");
+    assert!(day_listing(&paper_days()[4].sheet()).ends_with("\nverdict undecided job 1\n"));
+}
+
+fn test_limits() {
+    let answers: Vec<_> = limit_sheets()
+        .iter()
+        .map(|sheet| read_sheet(sheet).err().map(|refusal| (refusal.number, refusal.record)))
+        .collect();
+    let (three, five, six) = (Some((3, None)), Some((5, Some(0))), Some((6, Some(63))));
+    assert_eq!(answers, [None, three, six, None, five, three]);
+}
+
+/// The search against every pair of slots, the round trips, and even days that are not
+/// overloaded, which are always met.
+fn test_random_days() {
+    let mut dice = Dice { state: 7 };
+    for i in 0..30000 {
+        let day = [random_day, even_day, tied_day, wide_day][i % 4](&mut dice);
+        let (table, harvest) = (day.table(), &day.harvest[..]);
+        assert_eq!(search_overload(&table, harvest), search_all_slots(&table, harvest), "{day:?}");
+        let sheet = day.sheet();
+        assert_eq!(read_sheet(&sheet), Ok((table.clone(), harvest)));
+        let mut buffer = vec![FILL; sheet.len() + 2];
+        assert_eq!(write_sheet(&table, harvest, &mut buffer), Ok(sheet.len() as i64));
+        assert_eq!(buffer, [&sheet[..], &[FILL, FILL]].concat());
+        if i % 4 == 1 {
+            assert!(!is_undecided(&day), "{:?}", day);
+        }
+    }
+}
+
+fn self_test() {
+    test_paper_days();
+    test_day_program();
+    test_limits();
+    test_random_days();
+}
+
+// ------------------------------------------------------------------------------------------
+// The program
+// ------------------------------------------------------------------------------------------
+
+fn standard_input() -> Vec<u8> {
+    let mut input = Vec::new();
+    std::io::stdin().read_to_end(&mut input).expect("standard input can be read");
+    input
+}
+
+fn print(bytes: &[u8]) {
+    std::io::stdout().write_all(bytes).expect("standard output can be written");
+}
+
+fn main() {
+    let words: Vec<String> = std::env::args().skip(1).collect();
+    match words.iter().map(String::as_str).collect::<Vec<_>>()[..] {
+        ["day"] => print(day_listing(&standard_input()).as_bytes()),
+        ["cases"] => print(case_lines(&standard_input()).as_bytes()),
+        ["make"] => print(&make_cases().bytes),
+        ["self-test"] => {
+            self_test();
+            print(b"ok\n");
+        }
+        _ => {
+            eprintln!("use: second day | cases | make | self-test");
+            std::process::exit(2);
+        }
+    }
+}
