@@ -4,6 +4,7 @@ pub mod Order
 pub mod Parts
 pub mod Reading
 pub mod RoundTrips
+pub mod Sums
 pub mod Tests
 pub mod Theorems
 pub mod Words

@@ -1,9 +1,10 @@
 // The day sheet's table: its jobs, its slots and its capacity, and the check that every call makes
 // of a table and a harvest that are handed to it in place of a sheet.
 ghost use mathlib.Core.Path.{_≡_};
-ghost use Prim.Native.Nat.{_≤_};
+ghost use Prim.Native.Nat.{min, _≤_};
+ghost use Rattle.sheet.specs.Sums.{TotalsOf};
 ghost use Rattle.sheet.specs.Refusals.{outcomeSays, refusalNumber};
-ghost use Rattle.sheet.specs.Table.{mostJobs, countedAs, countsFault, windowFault, workFault, recordSays, recordsSay, tableSays};
+ghost use Rattle.sheet.specs.Table.{mostJobs, mostSlots, countedAs, countsFault, windowFault, workFault, recordSays, recordsSay, tableSays};
 
 // The limits of document 01.
 pub const MOST_JOBS: usize = 64;
@@ -52,7 +53,7 @@ pub enum Outcome {
 
 // What a slot's harvest byte counts for, wherever a slot's harvest is used.
 pub fn counted(byte: u8) -> u16
-    ensures { λ r. ⌜ r ≡ countedAs byte ⌝ }
+    ensures { λ r. ⌜ (r ≡ countedAs byte) × (r ≤ 255) ⌝ }
 {
     byte as u16
 }
@@ -155,4 +156,32 @@ pub fn number(r: Refusal) -> u8
         Refusal::Window(_) => 5,
         Refusal::Work(_) => 6,
     }
+}
+
+// A day's slots are at most 1,440: the number itself, or that.
+fn day_at_most(slots: usize) -> usize
+    ensures { λ r. ⌜ r ≡ min slots mostSlots ⌝ }
+{
+    if slots < MOST_SLOTS as usize {
+        slots
+    } else {
+        MOST_SLOTS as usize
+    }
+}
+
+// Running totals of a harvest: entry k is what the first k slots harvest, for every k up to the
+// harvest's length and 1,440; zeros beyond.
+pub fn totals(harvest: &[u8]) -> [u32; 1441]
+    ensures { λ r. ⌜ TotalsOf (now (harvest .entry)) r ⌝ }
+{
+    let mut sums = [0u32; 1441];
+    let mut sum: u32 = 0;
+    let slots = day_at_most(harvest.len());
+    let mut k = 0;
+    while k < slots {
+        sum += counted(harvest[k]) as u32;
+        k += 1;
+        sums[k] = sum;
+    }
+    sums
 }
