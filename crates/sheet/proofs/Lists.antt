@@ -1,13 +1,13 @@
 -- Laws of lists that are made place by place: at 0, at one place more, and their lengths.
 use Prim.Native.Nat.{ℕ, zero, suc, _+_, _-_, _*_, _<_, _≤_}
 use mathlib.Core.Path.{_≡_, refl, sym, ap, ap₂, _∙_, subst}
-use mathlib.Core.List.{List, [], _∷_, _++_}
+use mathlib.Core.List.{List, [], _∷_, _++_, append-nil}
 use native.Mathlib.Nat.{mul-zero, mul-suc, not-suc-le-zero}
 use native.Mathlib.Numerals.{add-one}
 use native.Mathlib.Omega.{arith}
 use native.Mathlib.Decide.{decLt}
-use lib.ListN.{length, getD, take, drop, set, replicate, length-append, length-drop, List·getD-append}
-use lib.Seq.{set-at, getD-at, append-snoc, take-suc, getD-drop}
+use lib.ListN.{length, getD, take, drop, set, replicate, length-append, length-drop, drop-of-length-le, List·getD-append}
+use lib.Seq.{set-at, getD-at, append-snoc, take-suc, drop-cons, getD-drop}
 use Rattle.sheet.specs.Lists.{joined, filled}
 
 pub joined-none : {X : Type 0} (f : ℕ → List X) → joined f 0 ≡ []
@@ -78,3 +78,30 @@ stretch-joined {X} z s (suc n) at h =
     let long : n < length (drop at s) = simp length-drop (omega arith) in
     take-suc (drop at s) n z long
     ∙ ap₂ (λ (l : List X) (x : X). l ++ x ∷ []) (stretch-joined z s n at (omega arith)) (getD-drop at s n z)
+
+-- a list whose first places are overwritten, one after the other
+abbrev pub over : {X : Type 0} → (ℕ → X) → List X → ℕ → List X
+over f l n = joined (λ k. f k ∷ []) n ++ drop n l
+
+pub over-none : {X : Type 0} (f : ℕ → X) (l : List X) → l ≡ over f l 0
+unfolding joined
+over-none f l = refl
+
+pub over-more : {X : Type 0} (f : ℕ → X) (l : List X) (n : ℕ) → n < length l → set (over f l n) n (f n) ≡ over f l (n + 1)
+over-more {X} f l n h =
+    let front : List X = joined (λ k. f k ∷ []) n in
+    ap (λ (r : List X). set (front ++ r) n (f n)) (drop-cons l n (f n) h)
+    ∙ set-at front _ (drop (suc n) l) (f n) n (listed-length f n)
+    ∙ sym (append-snoc front (f n) (drop (suc n) l))
+    ∙ ap₂ (λ (a : List X) (k : ℕ). a ++ drop k l) (sym (joined-more (λ k. f k ∷ []) n)) (sym (add-one n))
+
+pub over-length : {X : Type 0} (f : ℕ → X) (l : List X) (n : ℕ) → n ≤ length l → length (over f l n) ≡ length l
+over-length f l n h =
+    let a = listed-length f n in
+    let b = length-drop n l in
+    length-append (joined (λ k. f k ∷ []) n) (drop n l) ∙ omega arith
+
+-- once all places are overwritten
+pub over-all : {X : Type 0} (f : ℕ → X) (l : List X) (n : ℕ) → length l ≡ n → over f l n ≡ joined (λ k. f k ∷ []) n
+over-all {X} f l n e =
+    ap (λ (r : List X). joined (λ k. f k ∷ []) n ++ r) (drop-of-length-le l {i = n} (omega arith)) ∙ append-nil (joined (λ k. f k ∷ []) n)

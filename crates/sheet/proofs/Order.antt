@@ -11,7 +11,7 @@ use Rattle.sheet.specs.declared.Refusal.{Refusal}
 use Rattle.sheet.specs.declared.Refusal.the-variants.{Short, Mark, Counts, Layout, Window, Work}
 use Rattle.sheet.specs.declared.Outcome.{Outcome}
 use Rattle.sheet.specs.declared.Outcome.the-variants.{Accepted, Refused}
-use Rattle.sheet.specs.Paper.{Paper, Check, gives, refuses, refusesAt, _else_, inOrder}
+use Rattle.sheet.specs.Paper.{Paper, Check, gives, refuses, refusesAt, _else_, whereGiven, inOrder}
 
 -- an answer that refuses
 abbrev pub Refuses : Check → Type 0
@@ -72,3 +72,21 @@ says-refuses o r x e h = subst Refuses (sym (ap outcomeSays e) ∙ h) (refusal-r
 -- and of one that is accepted, accepts
 pub says-gives : (o : Outcome) (x : Check) → o ≡ Accepted → outcomeSays o ≡ x → x ≡ gives tt
 says-gives o x e h = sym h ∙ ap outcomeSays e
+
+-- a refusal is the answer whatever follows
+pub refusal-stays : {A : Type 0} (r : Refusal) (b : Paper A) → refusalSays r else b ≡ refusalSays r
+refusal-stays Short b = refl
+refusal-stays Mark b = refl
+refusal-stays Counts b = refl
+refusal-stays Layout b = refl
+refusal-stays (Window k) b = refl
+refusal-stays (Work k) b = refl
+
+-- and nothing is given
+pub refusal-gives-nothing : (A : Type 0) {X : Type 0} (r : Refusal) (x y : X) → whereGiven (refusalSays {A = A} r) x y ≡ y
+refusal-gives-nothing A Short x y = refl
+refusal-gives-nothing A Mark x y = refl
+refusal-gives-nothing A Counts x y = refl
+refusal-gives-nothing A Layout x y = refl
+refusal-gives-nothing A (Window k) x y = refl
+refusal-gives-nothing A (Work k) x y = refl

@@ -19,10 +19,10 @@ pub records-decide : (s : List ℕ) → ltb (length s) trailerLength ≡ false �
 unfolding sheetSays recordSays
 records-decide s short mark counts layout = rw (short, mark, counts, layout)
 
-where-given : {X : Type 0} (a : Check) (x y : X) → a ≡ gives tt → whereGiven a x y ≡ x
+pub where-given : {X : Type 0} (a : Check) (x y : X) → a ≡ gives tt → whereGiven a x y ≡ x
 where-given {X} a x y e = ap (λ (b : Check). whereGiven b x y) e
 
-where-refused : {X : Type 0} (a : Check) (x y : X) → Refuses a → whereGiven a x y ≡ y
+pub where-refused : {X : Type 0} (a : Check) (x y : X) → Refuses a → whereGiven a x y ≡ y
 where-refused (gives u) x y r = absurd r
 where-refused (refuses n) x y r = refl
 where-refused (refusesAt n place) x y r = refl

@@ -6,9 +6,9 @@ use mathlib.Core.List.{List, _∷_}
 use mathlib.Core.Logic.{_⊎_, inl, inr, ⊎-elim}
 use native.Mathlib.Nat.{not-suc-le-zero, mul-zero, mul-suc, zero-add, add-assoc}
 use native.Mathlib.Numerals.{add-one}
-use native.Mathlib.Decide.{decLt, decLe}
+use native.Mathlib.Decide.{decLt, decLe, ℕ-discrete}
 use native.Mathlib.Omega.{arith}
-use lib.ListN.{length, getD, set}
+use lib.ListN.{length, getD, set, replicate}
 use lib.Seq.{getD-set-same, getD-set-other}
 use Rattle.sheet.specs.Table.{mostSlots}
 use Rattle.sheet.specs.Sums.{total, totalOf, some, harvestAt, harvestOf, TotalsOf}
@@ -61,6 +61,10 @@ term-at-most f (suc n) k h =
 
 -- ---- some
 
+pub some-none : (test : ℕ → Bool) → some test 0 ≡ false
+unfolding some
+some-none test = refl
+
 pub some-more : (test : ℕ → Bool) (n : ℕ) → some test (n + 1) ≡ (some test n || test n)
 unfolding some
 some-more test n = ap (some test) (add-one n)
@@ -103,6 +107,15 @@ some-not test n none =
 
 pub not-some : (test : ℕ → Bool) (n k : ℕ) → some test n ≡ false → k < n → test k ≡ false
 not-some test n k e h = ⊎-elim (λ t. absurd (never-both (some-here test n k h t) e)) (λ f. f) (either (test k))
+
+pub some-same : (p q : ℕ → Bool) (n : ℕ) → ((k : ℕ) → k < n → p k ≡ q k) → some p n ≡ some q n
+unfolding some
+some-same p q zero e = refl
+some-same p q (suc n) e = ap₂ _||_ (some-same p q n (λ k h. e k (omega arith))) (e n (omega arith))
+
+-- none before, and not this one either
+pub some-clear : (test : ℕ → Bool) (n : ℕ) → some test n ≡ false → test n ≡ false → some test (n + 1) ≡ false
+some-clear test n p q = some-more test n ∙ ap₂ _||_ p q
 
 -- ---- harvest
 
@@ -147,4 +160,17 @@ entries-more g l k v right e long j h =
       | no i ↦
           let last : k + 1 ≡ j = omega arith in
           subst (λ (m : ℕ). getD (set l (k + 1) v) m 0 ≡ g m) last (getD-set-same l (k + 1) v 0 long ∙ e)
+    ]
+
+-- entries that stay within a bound
+pub small-none : (n most : ℕ) (k : ℕ) → getD (replicate n 0) k 0 ≤ most
+small-none zero most k = omega arith
+small-none (suc n) most zero = omega arith
+small-none (suc n) most (suc k) = small-none n most k
+
+pub small-more : (l : List ℕ) (i v most : ℕ) → ((k : ℕ) → getD l k 0 ≤ most) → v ≤ most → i < length l → (k : ℕ) → getD (set l i v) k 0 ≤ most
+small-more l i v most small h long k =
+    elim (ℕ-discrete k i) [
+      | yes e ↦ subst (λ (j : ℕ). getD (set l i v) j 0 ≤ most) (sym e) (rw (getD-set-same l i v 0 long) h)
+      | no e ↦ rw (getD-set-other l i k v 0 e) (small k)
     ]

@@ -1,5 +1,5 @@
 -- Sums over jobs and over slots.
-use Prim.Native.Nat.{ℕ, zero, suc, _+_, _-_, _≤_}
+use Prim.Native.Nat.{ℕ, zero, suc, _+_, _-_, _*_, _≤_}
 use mathlib.Core.Path.{_≡_}
 use mathlib.Core.List.{List}
 use mathlib.Core.Bool.{Bool, false, cond, _||_}
@@ -30,3 +30,10 @@ harvestOf harvest from to = total (λ i. harvestAt harvest (from + i)) (to - fro
 -- running totals: entry k is the harvest of the first k slots
 abbrev pub TotalsOf : List ℕ → List ℕ → Type 0
 TotalsOf harvest totals = (k : ℕ) → k ≤ length harvest → k ≤ mostSlots → getD totals k 0 ≡ total (harvestAt harvest) k
+
+-- the most that a day can harvest, and totals that stay within it
+abbrev pub mostHarvest : ℕ
+mostHarvest = 255 * mostSlots
+
+abbrev pub SmallTotals : List ℕ → Type 0
+SmallTotals totals = (k : ℕ) → getD totals k 0 ≤ mostHarvest

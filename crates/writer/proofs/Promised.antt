@@ -9,11 +9,10 @@ use Rattle.sheet.specs.Refusals.{refusalSays, outcomeSays}
 use Rattle.sheet.specs.Table.{tableSays}
 use Rattle.sheet.specs.Sheet.{sheetBytes, sheetLength, writeSays, bufferWritten}
 use Rattle.sheet.specs.declared.Refusal.{Refusal}
-use Rattle.sheet.specs.declared.Refusal.the-variants.{Short, Mark, Counts, Layout, Window, Work}
 use Rattle.sheet.specs.declared.Outcome.{Outcome}
 use Rattle.sheet.specs.declared.Outcome.the-variants.{Accepted, Refused}
 use Rattle.sheet.specs.declared.Table.{Table}
-use Rattle.sheet.proofs.Order.{says-gives}
+use Rattle.sheet.proofs.Order.{says-gives, refusal-stays, refusal-gives-nothing}
 use Rattle.writer.specs.declared.Written.the-variants as Written
 use Rattle.writer.specs.declared.Written.the-variants.{Length, NoRoom}
 use Rattle.writer.specs.Laid.{Laid}
@@ -22,24 +21,6 @@ use Rattle.sheet.proofs.Parts.{sheet-length}
 use Rattle.sheet.proofs.Theorems.{table-accepted-exactly}
 use Rattle.writer.proofs.Laying.{laid-front}
 
--- a refusal is the answer whatever follows
-refusal-stays : {A : Type 0} (r : Refusal) (b : Paper A) → refusalSays r else b ≡ refusalSays r
-refusal-stays Short b = refl
-refusal-stays Mark b = refl
-refusal-stays Counts b = refl
-refusal-stays Layout b = refl
-refusal-stays (Window k) b = refl
-refusal-stays (Work k) b = refl
-
--- and nothing is given
-refusal-gives-nothing : {X : Type 0} (r : Refusal) (x y : X) → whereGiven {A = ℕ} (refusalSays r) x y ≡ y
-refusal-gives-nothing Short x y = refl
-refusal-gives-nothing Mark x y = refl
-refusal-gives-nothing Counts x y = refl
-refusal-gives-nothing Layout x y = refl
-refusal-gives-nothing (Window k) x y = refl
-refusal-gives-nothing (Work k) x y = refl
-
 module _ (t : Table) (harvest out : List ℕ) where
   -- the table is refused: its refusal, and the buffer as it was
   pub writes-refused : (o : Outcome) (r : Refusal) → o ≡ Refused r → outcomeSays o ≡ tableSays t harvest → Writes t harvest out (Written.Refused r) out
@@ -47,7 +28,7 @@ module _ (t : Table) (harvest out : List ℕ) where
   writes-refused o r told said =
       let e : tableSays t harvest ≡ refusalSays r = sym said ∙ ap outcomeSays told in
       let says : writeSays t harvest out ≡ refusalSays r = rw e (refusal-stays r _) in
-      record { answer = sym says; buffer = rw says (sym (refusal-gives-nothing r _ out)) }
+      record { answer = sym says; buffer = rw says (sym (refusal-gives-nothing ℕ r _ out)) }
 
   -- the buffer is too short: 8, and the buffer as it was
   pub writes-no-room : (o : Outcome) (n : ℕ) → o ≡ Accepted → outcomeSays o ≡ tableSays t harvest → n ≡ sheetLength (t .count) (t .slots)

@@ -1,0 +1,7 @@
+pub mod Choosing
+pub mod Promised
+pub mod RuleLaws
+pub mod Running
+pub mod SlackTests
+pub mod Slacks
+pub mod Theorems

@@ -1,0 +1,5 @@
+pub mod Choosing
+pub mod Promise
+pub mod Rules
+pub mod Slack
+pub mod Steps

@@ -1,0 +1,440 @@
+// The ED-H slot run: the first state of a day, one step from any state, and the run of a whole day.
+use sheet::Job;
+use sheet::Outcome;
+use sheet::Refusal;
+use sheet::Table;
+ghost use mathlib.Core.Path.{_≡_};
+ghost use mathlib.Core.Bool.{cond, _&&_};
+ghost use Prim.Native.Nat.{min, _+_, _*_, _≤_, _<_};
+ghost use Rattle.sheet.specs.WellFormed.{GoodTable};
+ghost use lib.ListN.{length, getD};
+ghost use Rattle.sheet.specs.Sums.{some, SmallTotals};
+ghost use lib.Dec.{ltb, leb};
+ghost use Rattle.sheet.specs.Table.{mostJobs, mostSlots, jobOf};
+ghost use Rattle.slot_run.specs.Choosing.{chosen, deadlineOf, leftOf};
+ghost use Rattle.slot_run.specs.Slack.{zeroOrLess, slackTime};
+ghost use Rattle.slot_run.specs.Rules.{idle, busy, atHand, decisionSays, ruleFor, decided, stateBy, nextState, firstState, stateAt, planByte, idleByte, planOf};
+ghost use Rattle.slot_run.specs.Promise.{Starts, Steps};
+ghost use Rattle.slot_run.specs.Steps.{chosenSays, DeadlineHeld, besides, Bounded, needsChargeBy, InDay};
+
+// The plan's byte for an idle slot.
+const IDLE: u8 = 255;
+
+// A state of the run, as a slot begins: the slot, the charge level, and the slots that each job
+// still wants. What stands beyond the table's last job is never looked at, and is handed on.
+pub struct State {
+    pub slot: u16,
+    pub level: u16,
+    pub left: [u16; 64],
+}
+
+// Why a slot is busy.
+pub enum BusyWhy {
+    // Rule 3: what is at hand is above capacity, and would spill.
+    Full,
+    // Rule 4: slack time is 0 or less.
+    NoSlack,
+    // Rule 6: neither time nor coming work forbids it.
+    Free,
+}
+
+// Why a slot is idle.
+pub enum IdleWhy {
+    // Rule 1: no job is ready.
+    None,
+    // Rule 2: the chosen job costs more than is at hand.
+    Empty,
+    // Rule 5: coming work needs the charge.
+    Saving,
+}
+
+// What a slot does: busy with a job, or idle, and why.
+pub enum Decision {
+    Busy(usize, BusyWhy),
+    Idle(IdleWhy),
+}
+
+// A step's answer.
+pub enum Stepped {
+    // The table or the harvest is refused: 3, 4, 5 or 6.
+    Refused(Refusal),
+    // The state's slot is past the last slot of the day.
+    Over,
+    // What the slot does.
+    Decided(Decision),
+}
+
+// What a step yields: its answer and the state after it, which is the state that was handed in
+// where the step was refused or the day is over.
+pub struct StepResult {
+    pub answer: Stepped,
+    pub state: State,
+}
+
+// What starting a day yields. Where the table or the harvest is refused the state is all zeros.
+pub struct Start {
+    pub outcome: Outcome,
+    pub state: State,
+}
+
+// The choice among the jobs that were looked at: nobody, or a job with its deadline.
+enum Chosen {
+    Nobody,
+    Job(usize, u16),
+}
+
+// A number of a table or a state, as wide as the sums of such numbers.
+fn wide(number: u16) -> u32
+    ensures { λ r. ⌜ (r ≡ number) × (r ≤ 65535) ⌝ }
+{
+    number as u32
+}
+
+// An energy, as wide.
+fn widened(energy: u8) -> u32
+    ensures { λ r. ⌜ (r ≡ energy) × (r ≤ 255) ⌝ }
+{
+    energy as u32
+}
+
+// A job is ready in the slot: released, its deadline after the slot, slots still wanted.
+fn is_ready(slot: u16, release: u16, deadline: u16, left: u16) -> bool
+    ensures { λ r. ⌜ r ≡ (leb release slot && ltb slot deadline && ltb 0 left) ⌝ }
+{
+    if slot < release {
+        return false;
+    }
+    if deadline <= slot {
+        return false;
+    }
+    0 < left
+}
+
+// Job k beside the choice among lower numbers: k only where its deadline is smaller.
+fn beside(so_far: Chosen, k: usize, deadline: u16) -> Chosen
+    ensures { λ r. ⌜ r ≡ besides «so_far» k deadline ⌝ }
+{
+    match so_far {
+        Chosen::Nobody => Chosen::Job(k, deadline),
+        Chosen::Job(_, own) => {
+            if deadline < own {
+                Chosen::Job(k, deadline)
+            } else {
+                so_far
+            }
+        }
+    }
+}
+
+// The ready job with the smallest deadline, ties the lowest number.
+fn choose(t: Table, s: State) -> Chosen
+    requires { ⌜ t .count ≤ mostJobs ⌝ }
+    ensures { λ r. ⌜ (chosenSays r ≡ chosen t s) × DeadlineHeld t r ⌝ }
+{
+    let count = t.count;
+    let slot = s.slot;
+    let mut so_far = Chosen::Nobody;
+    let mut k = 0;
+    while k < count {
+        let deadline = t.jobs[k].deadline;
+        if is_ready(slot, t.jobs[k].release, deadline, s.left[k]) {
+            so_far = beside(so_far, k, deadline);
+        }
+        k += 1;
+    }
+    so_far
+}
+
+// What a job counts for in the work pending up to a deadline: the slots that it still wants, where
+// its own deadline is after the slot and up to that one.
+fn pending_part(slot: u16, end: u16, deadline: u16, left: u16) -> u32
+    ensures { λ r. ⌜ (r ≡ cond (ltb slot deadline && leb deadline end) left 0) × (r ≤ 65535) ⌝ }
+{
+    if slot < deadline {
+        if deadline <= end {
+            return left as u32;
+        }
+    }
+    0
+}
+
+// Slack time is 0 or less: some job that still wants slots has a deadline that the work pending up to
+// it fills.
+fn no_slack(t: Table, s: State) -> bool
+    requires { ⌜ t .count ≤ mostJobs ⌝ }
+    ensures { λ r. ⌜ r ≡ zeroOrLess (slackTime t s) ⌝ }
+{
+    let count = t.count;
+    let slot = s.slot;
+    let mut k = 0;
+    while k < count {
+        let end = t.jobs[k].deadline;
+        if slot < end {
+            if 0 < s.left[k] {
+                let mut pending: u32 = 0;
+                let mut i = 0;
+                while i < count {
+                    pending += pending_part(slot, end, t.jobs[i].deadline, s.left[i]);
+                    i += 1;
+                }
+                if wide(end) <= wide(slot) + pending {
+                    return true;
+                }
+            }
+        }
+        k += 1;
+    }
+    false
+}
+
+// What a job counts for in the work that comes up to a deadline: slots wanted × energy, where it is
+// released after the slot and its own deadline is up to that one.
+fn coming_part(slot: u16, end: u16, j: Job) -> u32
+    ensures { λ r. ⌜ (r ≡ cond (ltb slot (j .release) && leb (j .deadline) end) (j .wanted * j .energy) 0) × (r ≤ 65535 * 255) ⌝ }
+{
+    if slot < j.release {
+        if j.deadline <= end {
+            return work(j.wanted, j.energy);
+        }
+    }
+    0
+}
+
+// Slots wanted × energy.
+fn work(wanted: u16, energy: u8) -> u32
+    ensures { λ r. ⌜ (r ≡ wanted * energy) × (r ≤ 65535 * 255) ⌝ }
+{
+    wanted as u32 * energy as u32
+}
+
+// The level and the harvest of the slots from .. to - 1 are less than what is needed.
+fn falls_short(totals: &[u32; 1441], level: u16, from: u16, to: u16, needed: u32) -> bool
+    requires { ⌜ (from ≤ mostSlots) × (to ≤ mostSlots) × (needed ≤ 2000000000) × SmallTotals (now totals) ⌝ }
+    ensures { λ r. ⌜ r ≡ ltb (level + getD (now (totals .entry)) to 0) (needed + getD (now (totals .entry)) from 0) ⌝ }
+{
+    let start = from as usize;
+    let end = to as usize;
+    wide(level) + totals[end] < needed + totals[start]
+}
+
+// Slack energy is below the chosen job's energy: for some job that comes with a deadline below the
+// chosen job's, `own`, the level and the harvest up to there do not cover the work coming up to
+// there and this energy.
+fn needs_charge(t: Table, totals: &[u32; 1441], s: State, own: u16, energy: u8) -> bool
+    requires { ⌜ Bounded t (now totals) s ⌝ }
+    ensures { λ r. ⌜ r ≡ some (needsChargeBy t (now (totals .entry)) s own energy) (t .count) ⌝ }
+{
+    let count = t.count;
+    let slot = s.slot;
+    let mut k = 0;
+    while k < count {
+        let end = t.jobs[k].deadline;
+        if slot < t.jobs[k].release {
+            if end < own {
+                let mut coming: u32 = 0;
+                let mut i = 0;
+                while i < count {
+                    coming += coming_part(slot, end, t.jobs[i]);
+                    i += 1;
+                }
+                if falls_short(totals, s.level, slot, end, coming + energy as u32) {
+                    return true;
+                }
+            }
+        }
+        k += 1;
+    }
+    false
+}
+
+// The charge at hand in the state's slot: its level and the slot's harvest.
+fn at_hand(harvest: &[u8], s: State) -> u32
+    requires { ⌜ s .slot < length (now harvest) ⌝ }
+    ensures { λ r. ⌜ (r ≡ atHand (now (harvest .entry)) s) × (r ≤ 65790) ⌝ }
+{
+    let at = s.slot as usize;
+    wide(s.level) + wide(sheet::counted(harvest[at]))
+}
+
+// Rules 2 to 6 for the chosen job k, whose deadline is `own`.
+fn rule_for(
+    t: Table,
+    harvest: &[u8],
+    totals: &[u32; 1441],
+    s: State,
+    k: usize,
+    own: u16,
+) -> Decision
+    requires { ⌜ InDay t (now harvest) (now totals) s × (k < t .count) × (own ≡ deadlineOf t k) ⌝ }
+    ensures { λ r. ⌜ decisionSays r ≡ ruleFor t (now (harvest .entry)) s k ⌝ }
+{
+    let energy = t.jobs[k].energy;
+    let charge = at_hand(harvest, s);
+    if charge < widened(energy) {
+        return Decision::Idle(IdleWhy::Empty);
+    }
+    if wide(t.capacity) < charge {
+        return Decision::Busy(k, BusyWhy::Full);
+    }
+    if no_slack(t, s) {
+        return Decision::Busy(k, BusyWhy::NoSlack);
+    }
+    if needs_charge(t, totals, s, own, energy) {
+        return Decision::Idle(IdleWhy::Saving);
+    }
+    Decision::Busy(k, BusyWhy::Free)
+}
+
+// What the slot does: the first of the six rules that applies.
+fn decide(t: Table, harvest: &[u8], totals: &[u32; 1441], s: State) -> Decision
+    requires { ⌜ InDay t (now harvest) (now totals) s ⌝ }
+    ensures { λ r. ⌜ decisionSays r ≡ decided t (now (harvest .entry)) s ⌝ }
+{
+    let choice = choose(t, s);
+    match choice {
+        Chosen::Nobody => Decision::Idle(IdleWhy::None),
+        Chosen::Job(k, own) => rule_for(t, harvest, totals, s, k, own),
+    }
+}
+
+// The lesser of two numbers, the first of which fits a level.
+fn cut(capacity: u16, level: u32) -> u16
+    ensures { λ r. ⌜ r ≡ min capacity level ⌝ }
+{
+    if level < wide(capacity) {
+        level as u16
+    } else {
+        capacity
+    }
+}
+
+// The state after an idle slot.
+fn rest(t: Table, harvest: &[u8], s: State) -> State
+    requires { ⌜ (s .slot < length (now harvest)) × (s .slot < mostSlots) ⌝ }
+    ensures { λ r. ⌜ r ≡ stateBy t (now (harvest .entry)) s (idle 1) ⌝ }
+{
+    let mut next = s;
+    next.slot = s.slot + 1;
+    next.level = cut(t.capacity, at_hand(harvest, s));
+    next
+}
+
+// The state after a slot that was busy with job k, which wanted it and could be paid.
+fn spend(t: Table, harvest: &[u8], s: State, k: usize) -> State
+    requires { ⌜ (s .slot < length (now harvest)) × (s .slot < mostSlots) × (k < mostJobs) × (1 ≤ leftOf s k) × (jobOf t k .energy ≤ atHand (now harvest) s) ⌝ }
+    ensures { λ r. ⌜ r ≡ stateBy t (now (harvest .entry)) s (busy 6 k) ⌝ }
+{
+    let mut next = s;
+    next.slot = s.slot + 1;
+    next.level = cut(t.capacity, at_hand(harvest, s) - widened(t.jobs[k].energy));
+    next.left[k] = s.left[k] - 1;
+    next
+}
+
+// The state after the slot, which did this.
+fn after(t: Table, harvest: &[u8], s: State, d: Decision) -> State
+    requires { ⌜ GoodTable t (now harvest) × (s .slot < t .slots) × (decisionSays d ≡ decided t (now harvest) s) ⌝ }
+    ensures { λ r. ⌜ r ≡ nextState t (now (harvest .entry)) s ⌝ }
+{
+    match d {
+        Decision::Idle(_) => rest(t, harvest, s),
+        Decision::Busy(k, _) => spend(t, harvest, s, k),
+    }
+}
+
+// The first state of a table of at most 64 jobs.
+fn first_state(t: Table) -> State
+    requires { ⌜ t .count ≤ mostJobs ⌝ }
+    ensures { λ r. ⌜ r ≡ firstState t ⌝ }
+{
+    let count = t.count;
+    let mut left = [0u16; 64];
+    let mut k = 0;
+    while k < count {
+        left[k] = t.jobs[k].wanted;
+        k += 1;
+    }
+    State {
+        slot: 0,
+        level: t.capacity,
+        left,
+    }
+}
+
+// The first state of a day, from any table and harvest: slot 0, the level at capacity, and every job
+// wanting all its slots. It refuses what `sheet::check` refuses.
+pub fn begin(t: Table, harvest: &[u8]) -> Start
+    ensures { λ r. ⌜ Starts t (now (harvest .entry)) r ⌝ }
+{
+    let outcome = sheet::check(t, harvest);
+    if let Outcome::Refused(_) = outcome {
+        return Start {
+            outcome,
+            state: State {
+                slot: 0,
+                level: 0,
+                left: [0; 64],
+            },
+        };
+    }
+    Start {
+        outcome,
+        state: first_state(t),
+    }
+}
+
+// One step of the run, by the six rules, from any state at all: it looks for no overload and takes
+// the state's numbers as they stand. It refuses what `sheet::check` refuses, and past the last slot
+// it answers that the day is over; then the state that it hands back is the one it was handed.
+pub fn step(t: Table, harvest: &[u8], s: State) -> StepResult
+    ensures { λ r. ⌜ Steps t (now (harvest .entry)) s r ⌝ }
+{
+    let outcome = sheet::check(t, harvest);
+    if let Outcome::Refused(why) = outcome {
+        return StepResult {
+            answer: Stepped::Refused(why),
+            state: s,
+        };
+    }
+    if t.slots <= s.slot {
+        return StepResult {
+            answer: Stepped::Over,
+            state: s,
+        };
+    }
+    let totals = sheet::totals(harvest);
+    let decision = decide(t, harvest, &totals, s);
+    StepResult {
+        answer: Stepped::Decided(decision),
+        state: after(t, harvest, s, decision),
+    }
+}
+
+// The plan's byte for a slot: the job's number, or 255 for idle.
+fn plan_byte(d: Decision) -> u8
+    requires { ⌜ planByte (decisionSays d) ≤ idleByte ⌝ }
+    ensures { λ r. ⌜ r ≡ planByte (decisionSays d) ⌝ }
+{
+    match d {
+        Decision::Idle(_) => IDLE,
+        Decision::Busy(k, _) => k as u8,
+    }
+}
+
+// The whole run of a day: its plan, a byte a slot, and the state after the last slot. Only for a
+// table and harvest that were checked and a plan of slots bytes; `planner` calls it so.
+pub fn whole_run(t: Table, harvest: &[u8], plan: &mut [u8]) -> State
+    requires { ⌜ GoodTable t (now harvest) × (length (now plan) ≡ t .slots) ⌝ }
+    ensures { λ r. ⌜ (r ≡ stateAt t (now (harvest .entry)) (t .slots)) × (now (plan .exit) ≡ planOf t (now (harvest .entry))) ⌝ }
+{
+    let totals = sheet::totals(harvest);
+    let mut s = first_state(t);
+    let mut n = 0;
+    while n < plan.len() {
+        let decision = decide(t, harvest, &totals, s);
+        plan[n] = plan_byte(decision);
+        s = after(t, harvest, s, decision);
+        n += 1;
+    }
+    s
+}
