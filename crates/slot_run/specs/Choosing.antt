@@ -35,3 +35,7 @@ ready t s k = leb (jobOf t k .release) (s .slot) && ltb (s .slot) (deadlineOf t 
 -- "The chosen job has the smallest deadline, ties the lowest number."
 unfoldable pub chosen : Table → State → Choice
 chosen t s = earliest (ready t s) (deadlineOf t) (t .count)
+
+-- "the job unfinished at the smallest deadline, ties the lowest number"
+unfoldable pub unfinished : Table → State → Choice
+unfinished t s = earliest (λ k. ltb 0 (leftOf s k)) (deadlineOf t) (t .count)

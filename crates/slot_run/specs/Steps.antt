@@ -2,23 +2,34 @@
 use Prim.Native.Nat.{ℕ, _+_, _<_, _≤_}
 use mathlib.Core.Path.{_≡_}
 use mathlib.Core.List.{List}
-use mathlib.Core.Bool.{Bool, cond, _&&_}
+use mathlib.Core.Bool.{Bool, cond, not, _&&_, _||_}
 use lib.ListN.{getD}
-use lib.Dec.{ltb}
+use lib.Dec.{ltb, leb}
 use Rattle.sheet.specs.Sums.{TotalsOf, SmallTotals}
-use Rattle.sheet.specs.Table.{mostJobs, mostSlots}
+use Rattle.sheet.specs.Table.{mostJobs, mostSlots, jobOf}
 use Rattle.sheet.specs.WellFormed.{GoodTable}
 use Rattle.sheet.specs.declared.Table.{Table}
-use Rattle.slot_run.specs.Choosing.{Choice, nobody, job, deadlineOf}
+use Rattle.slot_run.specs.Choosing.{Choice, nobody, job, deadlineOf, leftOf}
 use Rattle.slot_run.specs.Slack.{comesBefore, coming}
 use Rattle.slot_run.specs.declared.State.{State}
 use Rattle.slot_run.specs.declared.Chosen.{Chosen}
 use Rattle.slot_run.specs.declared.Chosen.the-variants.{Nobody, Job}
+use Rattle.slot_run.specs.declared.Unfinished.{Unfinished}
+use Rattle.slot_run.specs.declared.Unfinished.the-variants.{Nothing, Job as Unfinished·Job}
 
 -- the choice that is held, without its deadline
 abbrev pub chosenSays : Chosen → Choice
 chosenSays Nobody = nobody
 chosenSays (Job k deadline) = job k
+
+abbrev pub unfinishedSays : Unfinished → Choice
+unfinishedSays Nothing = nobody
+unfinishedSays (Unfinished·Job k) = job k
+
+-- the two tests of a choice: ready, or only slots still wanted
+abbrev pub passes : Bool → Table → State → ℕ → Bool
+passes only-ready t s k =
+    (not only-ready || (leb (jobOf t k .release) (s .slot) && ltb (s .slot) (deadlineOf t k))) && ltb 0 (leftOf s k)
 
 -- the deadline that is held is the job's own
 abbrev pub DeadlineHeld : Table → Chosen → Type 0

@@ -4,18 +4,18 @@ use sheet::Outcome;
 use sheet::Refusal;
 use sheet::Table;
 ghost use mathlib.Core.Path.{_≡_};
-ghost use mathlib.Core.Bool.{cond, _&&_};
+ghost use mathlib.Core.Bool.{cond, not, _&&_, _||_};
 ghost use Prim.Native.Nat.{min, _+_, _*_, _≤_, _<_};
 ghost use Rattle.sheet.specs.WellFormed.{GoodTable};
 ghost use lib.ListN.{length, getD};
 ghost use Rattle.sheet.specs.Sums.{some, SmallTotals};
 ghost use lib.Dec.{ltb, leb};
 ghost use Rattle.sheet.specs.Table.{mostJobs, mostSlots, jobOf};
-ghost use Rattle.slot_run.specs.Choosing.{chosen, deadlineOf, leftOf};
+ghost use Rattle.slot_run.specs.Choosing.{earliest, chosen, unfinished, deadlineOf, leftOf};
 ghost use Rattle.slot_run.specs.Slack.{zeroOrLess, slackTime};
 ghost use Rattle.slot_run.specs.Rules.{idle, busy, atHand, decisionSays, ruleFor, decided, stateBy, nextState, firstState, stateAt, planByte, idleByte, planOf};
 ghost use Rattle.slot_run.specs.Promise.{Starts, Steps};
-ghost use Rattle.slot_run.specs.Steps.{chosenSays, DeadlineHeld, besides, Bounded, needsChargeBy, InDay};
+ghost use Rattle.slot_run.specs.Steps.{chosenSays, unfinishedSays, passes, DeadlineHeld, besides, Bounded, needsChargeBy, InDay};
 
 // The plan's byte for an idle slot.
 const IDLE: u8 = 255;
@@ -77,6 +77,14 @@ pub struct Start {
     pub state: State,
 }
 
+// What a day leaves unfinished.
+pub enum Unfinished {
+    // Every job got its slots.
+    Nothing,
+    // This job did not.
+    Job(usize),
+}
+
 // The choice among the jobs that were looked at: nobody, or a job with its deadline.
 enum Chosen {
     Nobody,
@@ -110,6 +118,17 @@ fn is_ready(slot: u16, release: u16, deadline: u16, left: u16) -> bool
     0 < left
 }
 
+// A job still wants slots, and where only ready jobs are asked for it is released and its deadline is
+// after the slot.
+fn passes_test(only_ready: bool, slot: u16, release: u16, deadline: u16, left: u16) -> bool
+    ensures { λ r. ⌜ r ≡ ((not «only_ready» || (leb release slot && ltb slot deadline)) && ltb 0 left) ⌝ }
+{
+    if only_ready {
+        return is_ready(slot, release, deadline, left);
+    }
+    0 < left
+}
+
 // Job k beside the choice among lower numbers: k only where its deadline is smaller.
 fn beside(so_far: Chosen, k: usize, deadline: u16) -> Chosen
     ensures { λ r. ⌜ r ≡ besides «so_far» k deadline ⌝ }
@@ -126,10 +145,11 @@ fn beside(so_far: Chosen, k: usize, deadline: u16) -> Chosen
     }
 }
 
-// The ready job with the smallest deadline, ties the lowest number.
-fn choose(t: Table, s: State) -> Chosen
+// Of the ready jobs, or of all that still want slots, the one with the smallest deadline, ties the
+// lowest number.
+fn earliest_job(t: Table, s: State, only_ready: bool) -> Chosen
     requires { ⌜ t .count ≤ mostJobs ⌝ }
-    ensures { λ r. ⌜ (chosenSays r ≡ chosen t s) × DeadlineHeld t r ⌝ }
+    ensures { λ r. ⌜ (chosenSays r ≡ earliest (passes «only_ready» t s) (deadlineOf t) (t .count)) × DeadlineHeld t r ⌝ }
 {
     let count = t.count;
     let slot = s.slot;
@@ -137,12 +157,20 @@ fn choose(t: Table, s: State) -> Chosen
     let mut k = 0;
     while k < count {
         let deadline = t.jobs[k].deadline;
-        if is_ready(slot, t.jobs[k].release, deadline, s.left[k]) {
+        if passes_test(only_ready, slot, t.jobs[k].release, deadline, s.left[k]) {
             so_far = beside(so_far, k, deadline);
         }
         k += 1;
     }
     so_far
+}
+
+// The chosen job: of the ready ones, the smallest deadline, ties the lowest number.
+fn choose(t: Table, s: State) -> Chosen
+    requires { ⌜ t .count ≤ mostJobs ⌝ }
+    ensures { λ r. ⌜ (chosenSays r ≡ chosen t s) × DeadlineHeld t r ⌝ }
+{
+    earliest_job(t, s, true)
 }
 
 // What a job counts for in the work pending up to a deadline: the slots that it still wants, where
@@ -437,4 +465,17 @@ pub fn whole_run(t: Table, harvest: &[u8], plan: &mut [u8]) -> State
         n += 1;
     }
     s
+}
+
+// The job that a state leaves unfinished at the smallest deadline, ties the lowest number. Only for a
+// table that was checked; `planner` calls it so.
+pub fn find_unfinished(t: Table, s: State) -> Unfinished
+    requires { ⌜ t .count ≤ mostJobs ⌝ }
+    ensures { λ r. ⌜ unfinishedSays r ≡ unfinished t s ⌝ }
+{
+    let choice = earliest_job(t, s, false);
+    match choice {
+        Chosen::Nobody => Unfinished::Nothing,
+        Chosen::Job(k, _) => Unfinished::Job(k),
+    }
 }

@@ -1,107 +1,15 @@
--- The loop keeps: what is held is the choice among the jobs before k, with its own deadline.
-use Prim.Native.Nat.{_≤_, _-_}
-use mathlib.Core.Path.{_≡_, refl, sym, ap, _∙_, subst}
-use mathlib.Core.Logic.{⊎-elim}
-use native.Mathlib.Omega.{arith}
-use Rattle.slot_run.specs.Choosing.{Choice, smaller, ready, earliest, chosen, deadlineOf}
-use Rattle.slot_run.specs.Steps.{chosenSays, DeadlineHeld}
-use Rattle.slot_run.proofs.Choosing.{earliest-none, earliest-passes, earliest-fails, beside-says, beside-holds}
+-- The chosen job is the earliest of the ready ones.
+use Rattle.slot_run.specs.Choosing.{ready, chosen}
 use borrow.Author.Needs.{needs}
 use Rattle.slot_run.proofs.choose.Statement.{statement}
 use Rattle.slot_run.proofs.choose.Tie as tie
 
-abbrev Inv-loop : tie.InvT-loop
-Inv-loop t s count slot so-far₀ k₀ so-far k = (count ≡ t .count) × (slot ≡ s .slot) × (k ≤ count) × (chosenSays so-far ≡ earliest (ready t s) (deadlineOf t) k) × DeadlineHeld t so-far
+earliest-job-requires : tie.Need-earliest-job-requires
+earliest-job-requires c κs = search needs
 
-abbrev μ-loop : tie.MeasureT-loop
-μ-loop t s count slot so-far₀ k₀ so-far k = count - k
-
-loop-holds : tie.Need-loop-holds Inv-loop μ-loop
-loop-holds c = (refl, refl, search needs, sym (earliest-none _ _), tt)
-
-mul-deadline : tie.Need-mul-deadline Inv-loop μ-loop
-mul-deadline c = search needs
-
-element-copy-out-deadline : tie.Need-element-copy-out-deadline Inv-loop μ-loop
-element-copy-out-deadline c = search needs
-
-mul-is-ready : tie.Need-mul-is-ready Inv-loop μ-loop
-mul-is-ready c = search needs
-
-element-copy-out-is-ready : tie.Need-element-copy-out-is-ready Inv-loop μ-loop
-element-copy-out-is-ready c = search needs
-
-mul-is-ready-2 : tie.Need-mul-is-ready-2 Inv-loop μ-loop
-mul-is-ready-2 c = search needs
-
-element-copy-out-is-ready-2 : tie.Need-element-copy-out-is-ready-2 Inv-loop μ-loop
-element-copy-out-is-ready-2 c = search needs
-
-is-ready-requires : tie.Need-is-ready-requires Inv-loop μ-loop
-is-ready-requires c κs = search needs
-
-beside-requires : tie.Need-beside-requires Inv-loop μ-loop
-beside-requires c κs = search needs
-
-add-k : tie.Need-add-k Inv-loop μ-loop
-add-k c = search needs
-
-loop-less : tie.Need-loop-less Inv-loop μ-loop
-loop-less c = search needs
-
-loop-again : tie.Need-loop-again Inv-loop μ-loop
-unfolding ready
-loop-again c =
-    let at-loop = c .before .before .before .before in
-    let t = at-loop .before .args .t1 in
-    let s = at-loop .before .args .t2 in
-    let k = at-loop .loop .k in
-    let said = at-loop .loop .inv .3 in
-    let held = at-loop .loop .inv .4 in
-    ⊎-elim
-    (λ w.
-    let same = w .2 ∙ w .1 .ensures in (
-      refl,
-      refl,
-      search needs,
-      ap chosenSays same
-          ∙ beside-says t (at-loop .loop .so-far) k (deadlineOf t k) held refl
-          ∙ ap (λ (x : Choice). smaller (deadlineOf t) x k) said
-          ∙ sym (earliest-passes (ready t s) (deadlineOf t) k (sym (c .before .is-ready .ensures) ∙ w .0 .taken)),
-      subst (DeadlineHeld t) (sym same) (beside-holds t (at-loop .loop .so-far) k (deadlineOf t k) held refl),
-    ))
-    (λ w. (
-      refl,
-      refl,
-      search needs,
-      ap chosenSays (w .1) ∙ said ∙ sym (earliest-fails (ready t s) (deadlineOf t) k (sym (c .before .is-ready .ensures) ∙ w .0 .left)),
-      subst (DeadlineHeld t) (sym (w .1)) held,
-    ))
-    (c .if1 .came)
-
-returns : tie.Need-returns Inv-loop μ-loop
-unfolding chosen
-returns c =
-    let at-loop = c .before in
-    let at-end : at-loop .loop .k ≡ at-loop .before .args .t1 .count = omega arith in
-    (at-loop .loop .inv .3 ∙ ap (earliest (ready (at-loop .before .args .t1) (at-loop .before .args .t2)) (deadlineOf (at-loop .before .args .t1))) at-end, at-loop .loop .inv .4)
+returns : tie.Need-returns
+unfolding ready chosen
+returns c = c .earliest-job .ensures
 
 pub choose-spec : {M : Type 1} → statement M
-choose-spec =
-    tie.close
-    (tie.spec
-    Inv-loop
-    μ-loop
-    loop-holds
-    mul-deadline
-    element-copy-out-deadline
-    mul-is-ready
-    element-copy-out-is-ready
-    mul-is-ready-2
-    element-copy-out-is-ready-2
-    is-ready-requires
-    beside-requires
-    add-k
-    loop-less
-    loop-again
-    returns)
+choose-spec = tie.close (tie.spec earliest-job-requires returns)
