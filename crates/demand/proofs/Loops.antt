@@ -19,12 +19,12 @@ use Rattle.sheet.specs.WellFormed.{GoodTable}
 use Rattle.sheet.specs.declared.Table.{Table}
 use Rattle.demand.specs.Demand.{within, timeDemand, energyDemand, energySupply, overloaded}
 use Rattle.demand.specs.Search.{Found, interval, nothing, isRelease, isDeadline, foundAt, latestStart, smallestEnd}
-use Rattle.demand.specs.Steps.{DayOf, answerOf, supplyBy, foundBy, laterOf, NextDeadline}
+use Rattle.demand.specs.Steps.{DayOf, findingOf, supplyBy, foundBy, laterOf, NextDeadline}
 use Rattle.demand.specs.declared.Latest.{Latest}
 use Rattle.demand.specs.declared.Overload.{Overload}
-use Rattle.demand.specs.declared.Searched.{Searched}
-use Rattle.demand.specs.declared.Searched.the-variants.{Overloaded, Clear}
-use Rattle.demand.proofs.Finding.{startAt, LatestAt, found-or-not, when-nothing, latest-none, latest-here}
+use Rattle.demand.specs.declared.Finding.{Finding}
+use Rattle.demand.specs.declared.Finding.the-variants.{Interval, Nothing}
+use Rattle.demand.proofs.Findings.{startAt, LatestAt, found-or-not, when-nothing, latest-none, latest-here, endAt, SmallestAt, smallest-none, smallest-here}
 
 -- ---- a job's release and a job's deadline
 
@@ -171,14 +171,14 @@ module _ (t : Table) (found : ℕ → Found) (to : ℕ) where
     pub release : isRelease t from ≡ true
     pub gives : found from ≡ interval o
 
-  abbrev pub Held : Searched → ℕ → Type 0
-  Held answer earliest = ((answer ≡ Clear) × (earliest ≡ 0)) ⊎ ((o : Overload) × (answer ≡ Overloaded o) × ((from : ℕ) × Start o earliest from))
+  abbrev pub Held : Finding → ℕ → Type 0
+  Held held earliest = ((held ≡ Nothing) × (earliest ≡ 0)) ⊎ ((o : Overload) × (held ≡ Interval o) × ((from : ℕ) × Start o earliest from))
 
   pub record LatestSoFar (k : ℕ) (latest : Latest) : Type 0 where
-    pub held : Held (latest .answer) (latest .earliest)
+    pub held : Held (latest .found) (latest .earliest)
     pub none-later : (i : ℕ) → i < k → latest .earliest ≤ jobOf t i .release → jobOf t i .release < to → found (jobOf t i .release) ≡ nothing
 
-  pub latest-at-first : LatestSoFar 0 (record { answer = Clear; earliest = 0 })
+  pub latest-at-first : LatestSoFar 0 (record { found = Nothing; earliest = 0 })
   latest-at-first = record { held = inl (refl, refl); none-later = λ i l. absurd (not-suc-le-zero l) }
 
   pub latest-stays : (k : ℕ) (latest : Latest) → LatestSoFar k latest
@@ -209,19 +209,19 @@ module _ (t : Table) (found : ℕ → Found) (to : ℕ) where
       (found-or-not (found (jobOf t k .release)))
 
   pub latest-found : (harvest : List ℕ) (latest : Latest) → ((from : ℕ) → from < to → found from ≡ foundAt t harvest from to)
-      → LatestSoFar (t .count) latest → latest .answer ≡ answerOf (latestStart t harvest to to)
+      → LatestSoFar (t .count) latest → latest .found ≡ findingOf (latestStart t harvest to to)
   latest-found harvest latest same s =
       ⊎-elim
       (λ w.
       let first = w .1 in
-      w .0 ∙ sym (ap answerOf (latest-none t harvest to to (λ i h. none i h (omega arith)))))
+      w .0 ∙ sym (ap findingOf (latest-none t harvest to to (λ i h. none i h (omega arith)))))
       (λ w.
       let start = w .2 .1 in
       let from = w .2 .0 in
       let after = start .next in
       w .1
       ∙ sym
-      (ap answerOf
+      (ap findingOf
       (latest-here t harvest to to from (w .0)
       (record {
         below = start .in-time;
@@ -238,3 +238,55 @@ module _ (t : Table) (found : ℕ → Found) (to : ℕ) where
           let k = w .0 in
           sym (same i h)
           ∙ subst (λ (n : ℕ). latest .earliest ≤ n → n < to → found n ≡ nothing) (w .2) (s .none-later k (w .1)) l h)
+
+-- ---- the ends up to one deadline
+
+pub finding-interval : (o : Overload) (held : Finding) (x : Found) → held ≡ Interval o → held ≡ findingOf x → x ≡ interval o
+finding-interval o held nothing p q = cc
+finding-interval o held (interval r) p q = cc
+
+pub finding-nothing : (held : Finding) (x : Found) → held ≡ Nothing → held ≡ findingOf x → x ≡ nothing
+finding-nothing held nothing p q = refl
+finding-nothing held (interval r) p q = cc
+
+module _ (t : Table) (totals : List ℕ) where
+  -- no end before this deadline gives anything
+  pub record EndsSoFar (to : ℕ) : Type 0 where
+    pub above : 1 ≤ to
+    pub is-one : to ≤ t .slots → isDeadline t to ≡ true
+    pub none-earlier : (harvest : List ℕ) → DayOf t harvest totals → (i : ℕ) → 1 ≤ i → i < to → endAt t harvest i ≡ nothing
+
+  no-end : (harvest : List ℕ) (slot : ℕ) → isDeadline t slot ≡ false → endAt t harvest slot ≡ nothing
+  no-end harvest slot e = ap (λ (b : Bool). cond b (latestStart t harvest slot slot) nothing) e
+
+  pub ends-at-first : (next : ℕ) → NextDeadline t 0 next → EndsSoFar next
+  ends-at-first next d =
+      record { above = d .later; is-one = d .is-one; none-earlier = λ harvest day i a b. no-end harvest i (d .none-between i a b) }
+
+  pub ends-more : (to next : ℕ) → EndsSoFar to → ((harvest : List ℕ) → DayOf t harvest totals → latestStart t harvest to to ≡ nothing) → NextDeadline t to next → EndsSoFar next
+  ends-more to next s none d =
+      record {
+        above = let l = d .later in omega arith;
+        is-one = d .is-one;
+        none-earlier =
+            λ harvest day i a b.
+            elim (decLt i to) [
+              | yes l ↦ s .none-earlier harvest day i a l
+              | no l ↦
+                  elim (decLt to i) [
+                    | yes m ↦ no-end harvest i (d .none-between i m b)
+                    | no m ↦
+                        let same : to ≡ i = omega arith in
+                        subst (λ (n : ℕ). endAt t harvest n ≡ nothing) same (when-nothing (isDeadline t to) _ (λ e. none harvest day))
+                  ]
+            ];
+      }
+
+  pub ends-found : (to : ℕ) (o : Overload) (harvest : List ℕ) → EndsSoFar to → to ≤ t .slots → DayOf t harvest totals
+      → latestStart t harvest to to ≡ interval o → smallestEnd t harvest (t .slots) ≡ interval o
+  ends-found to o harvest s h day e =
+      smallest-here t harvest (t .slots) to o
+      (record { above = s .above; up-to = h; gives = rw (s .is-one h) e; none-earlier = s .none-earlier harvest day })
+
+  pub ends-none : (to : ℕ) (harvest : List ℕ) → EndsSoFar to → t .slots < to → DayOf t harvest totals → smallestEnd t harvest (t .slots) ≡ nothing
+  ends-none to harvest s h day = smallest-none t harvest (t .slots) (λ i a b. s .none-earlier harvest day i a (omega arith))

@@ -11,8 +11,8 @@ use Rattle.sheet.specs.declared.Table.{Table}
 use Rattle.demand.specs.Search.{Found, interval, nothing, isDeadline}
 use Rattle.demand.specs.declared.Kind.the-variants.{Time, Energy}
 use Rattle.demand.specs.declared.Latest.{Latest}
-use Rattle.demand.specs.declared.Searched.{Searched}
-use Rattle.demand.specs.declared.Searched.the-variants.{Overloaded, Clear}
+use Rattle.demand.specs.declared.Finding.{Finding}
+use Rattle.demand.specs.declared.Finding.the-variants.{Interval, Nothing}
 
 -- a well-formed day, with the running totals of its harvest
 pub record DayOf (t : Table) (harvest totals : List ℕ) : Type 0 where
@@ -28,10 +28,10 @@ TotalsLent t totals = (harvest : List ℕ) × DayOf t harvest totals
 abbrev pub supplyBy : ℕ → List ℕ → ℕ → ℕ → ℕ
 supplyBy capacity totals from to = capacity + getD totals to 0 - getD totals from 0
 
--- what is found, as an answer
-abbrev pub answerOf : Found → Searched
-answerOf (interval o) = Overloaded o
-answerOf nothing = Clear
+-- what is found, as the code holds it
+abbrev pub findingOf : Found → Finding
+findingOf (interval o) = Interval o
+findingOf nothing = Nothing
 
 -- one interval by its two demands and its energy supply: "time before energy"
 unfoldable pub foundBy : (from to time energy supply : ℕ) → Found
@@ -41,7 +41,7 @@ foundBy from to time energy supply =
 
 -- what is found so far, with one start more, which is later
 abbrev pub laterOf : ℕ → Found → Latest → Latest
-laterOf from (interval o) latest = record { answer = Overloaded o; earliest = from + 1 }
+laterOf from (interval o) latest = record { found = Interval o; earliest = from + 1 }
 laterOf from nothing latest = latest
 
 -- the first deadline after a slot, or one more than slots where there is none

@@ -10,7 +10,7 @@ ghost use lib.ListN.{getD};
 ghost use Prim.Native.Nat.{ℕ, _*_, _<_, _≤_};
 ghost use Rattle.sheet.specs.Table.{mostJobs, mostSlots};
 ghost use Rattle.demand.specs.Search.{searchedSays, searchOf, latestStart, smallestEnd};
-ghost use Rattle.demand.specs.Steps.{DayOf, TotalsLent, answerOf, foundBy, laterOf, supplyBy, NextDeadline};
+ghost use Rattle.demand.specs.Steps.{DayOf, TotalsLent, findingOf, foundBy, laterOf, supplyBy, NextDeadline};
 
 // The two kinds of demand: slots of time, and charge.
 pub enum Kind {
@@ -79,10 +79,16 @@ fn energy_supply(capacity: u16, totals: &[u32; 1441], from: u16, to: u16) -> u32
     capacity as u32 + totals[to as usize] - totals[from as usize]
 }
 
-// What is found so far for one end: the answer, and the first slot after the start found (0 where
-// there is none). A start before that slot comes no later.
+// What is found among some intervals of an accepted table.
+enum Finding {
+    Interval(Overload),
+    Nothing,
+}
+
+// What is found so far for one end, and the first slot after the start found (0 where there is
+// none). A start before that slot comes no later.
 struct Latest {
-    answer: Searched,
+    found: Finding,
     earliest: u16,
 }
 
@@ -95,7 +101,7 @@ fn compared(latest: Latest, from: u16, to: u16, time: u32, energy: u32, supply: 
     let slots = (to - from) as u32;
     if slots < time {
         return Latest {
-            answer: Searched::Overloaded(Overload {
+            found: Finding::Interval(Overload {
                 kind: Kind::Time,
                 from,
                 to,
@@ -107,7 +113,7 @@ fn compared(latest: Latest, from: u16, to: u16, time: u32, energy: u32, supply: 
     }
     if supply < energy {
         return Latest {
-            answer: Searched::Overloaded(Overload {
+            found: Finding::Interval(Overload {
                 kind: Kind::Energy,
                 from,
                 to,
@@ -123,13 +129,13 @@ fn compared(latest: Latest, from: u16, to: u16, time: u32, energy: u32, supply: 
 // The overloaded interval with the latest start among those from a job's release to this end. The
 // table is an accepted one, with the running totals of its harvest. The jobs are summed up here, in
 // a loop in the loop, so that the table is handed over once for each end only.
-fn latest_start(t: Table, totals: &[u32; 1441], to: u16) -> Searched
+fn latest_start(t: Table, totals: &[u32; 1441], to: u16) -> Finding
     requires { ⌜ (to ≤ t .slots) × TotalsLent t (now totals) ⌝ }
-    ensures { λ r. ⌜ ((harvest : List ℕ) → DayOf t harvest (now (totals .entry)) → r ≡ answerOf (latestStart t harvest to to)) ⌝ }
+    ensures { λ r. ⌜ ((harvest : List ℕ) → DayOf t harvest (now (totals .entry)) → r ≡ findingOf (latestStart t harvest to to)) ⌝ }
 {
     let count = t.count;
     let mut latest = Latest {
-        answer: Searched::Clear,
+        found: Finding::Nothing,
         earliest: 0,
     };
     for k in 0..count {
@@ -148,7 +154,7 @@ fn latest_start(t: Table, totals: &[u32; 1441], to: u16) -> Searched
         let supply = energy_supply(t.capacity, totals, from, to);
         latest = compared(latest, from, to, time, energy, supply);
     }
-    latest.answer
+    latest.found
 }
 
 // The first deadline after a slot, or slots + 1 where there is none.
@@ -169,20 +175,20 @@ fn next_deadline(t: Table, after: u16) -> u16
 
 // The overloaded interval with the smallest end, then the latest start: the deadlines upwards. The
 // table is an accepted one, with the running totals of its harvest.
-fn smallest_end(t: Table, totals: &[u32; 1441]) -> Searched
+fn smallest_end(t: Table, totals: &[u32; 1441]) -> Finding
     requires { ⌜ TotalsLent t (now totals) ⌝ }
-    ensures { λ r. ⌜ ((harvest : List ℕ) → DayOf t harvest (now (totals .entry)) → r ≡ answerOf (smallestEnd t harvest (t .slots))) ⌝ }
+    ensures { λ r. ⌜ ((harvest : List ℕ) → DayOf t harvest (now (totals .entry)) → r ≡ findingOf (smallestEnd t harvest (t .slots))) ⌝ }
 {
     let slots = t.slots;
     let mut to = next_deadline(t, 0);
     while to <= slots {
         let found = latest_start(t, totals, to);
-        if let Searched::Overloaded(_) = found {
+        if let Finding::Interval(_) = found {
             return found;
         }
         to = next_deadline(t, to);
     }
-    Searched::Clear
+    Finding::Nothing
 }
 
 // Searches a table and its harvest for an overloaded interval. It takes any table and any harvest
@@ -195,5 +201,8 @@ pub fn search(t: Table, harvest: &[u8]) -> Searched
         return Searched::Refused(refusal);
     }
     let totals = sheet::totals(harvest);
-    smallest_end(t, &totals)
+    match smallest_end(t, &totals) {
+        Finding::Interval(o) => Searched::Overloaded(o),
+        Finding::Nothing => Searched::Clear,
+    }
 }

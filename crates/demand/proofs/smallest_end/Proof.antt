@@ -1,3 +1,9 @@
+-- The loop keeps: no end before `to`, the next deadline, gives anything.
+use Prim.Native.Nat.{ℕ, _+_, _-_, _≤_}
+use mathlib.Core.Path.{_≡_, refl, sym, ap, _∙_}
+use native.Mathlib.Omega.{arith}
+use Rattle.demand.specs.Steps.{findingOf}
+use Rattle.demand.proofs.Loops.{EndsSoFar, ends-at-first, ends-more, ends-found, ends-none, finding-interval, finding-nothing}
 use borrow.Author.Needs.{needs}
 use Rattle.demand.proofs.smallest_end.Statement.{statement}
 use Rattle.demand.proofs.smallest_end.Tie as tie
@@ -7,46 +13,65 @@ use Rattle.demand.proofs.latest_start.Reads as latest-start-reads
 use Rattle.demand.proofs.next_deadline.Reads as next-deadline-reads
 
 abbrev Inv-loop : tie.InvT-loop
-Inv-loop t totals slots to₀ to = ?
+Inv-loop t totals slots to₀ to = (slots ≡ t .slots) × EndsSoFar t totals to
 
 abbrev μ-loop : tie.MeasureT-loop
-μ-loop t totals slots to₀ to = ?
+μ-loop t totals slots to₀ to = slots + 1 - to
 
--- src/lib.rt:177:9
+-- src/lib.rt:183:9
 next-deadline-requires : tie.Need-next-deadline-requires Inv-loop μ-loop
-next-deadline-requires c κs = search needs
+next-deadline-requires c κs = let good = c .pre .1 .good in (good .few-jobs, good .few-slots, search needs)
 
--- src/lib.rt:178:5
+-- src/lib.rt:184:5
 loop-holds : tie.Need-loop-holds Inv-loop μ-loop
-loop-holds c = search needs
+loop-holds c = (refl, ends-at-first _ _ _ (c .next-deadline .ensures))
 
--- src/lib.rt:179:13
+-- src/lib.rt:185:13
 latest-start-requires : tie.Need-latest-start-requires Inv-loop μ-loop
-latest-start-requires c κs = search needs
+latest-start-requires c κs = (c .loop-test .taken, c .before .before .before .pre)
 
--- src/lib.rt:181:13
+-- src/lib.rt:187:13
 enum-told : tie.Need-enum-told Inv-loop μ-loop
 enum-told c = search needs
 
--- src/lib.rt:181:13
+-- src/lib.rt:187:13
 returns : tie.Need-returns Inv-loop μ-loop
-returns c = search needs
+returns c harvest day =
+    let at-loop = c .before .before .before .before in
+    let found = c .enum-told .given .1 in
+    found
+    ∙ sym
+    (ap findingOf
+    (ends-found _ _ (at-loop .loop .to) _ harvest (at-loop .loop .inv .1) (c .before .before .before .loop-test .taken) day
+    (finding-interval _ _ _ found (c .before .before .latest-start .ensures harvest day))))
 
--- src/lib.rt:183:9
+enum-told-2 : tie.Need-enum-told-2 Inv-loop μ-loop
+enum-told-2 c = search needs
+
+-- src/lib.rt:189:9
 next-deadline-requires-2 : tie.Need-next-deadline-requires-2 Inv-loop μ-loop
-next-deadline-requires-2 c κs = search needs
+next-deadline-requires-2 c κs =
+    let at-loop = c .before .before .before .before in
+    let good = at-loop .before .before .pre .1 .good in
+    (good .few-jobs, good .few-slots, c .before .before .before .loop-test .taken)
 
--- src/lib.rt:178:5
+-- src/lib.rt:184:5
 loop-less : tie.Need-loop-less Inv-loop μ-loop
-loop-less c = search needs
+loop-less c = let next = c .next-deadline2 .ensures in omega arith
 
--- src/lib.rt:178:5
+-- src/lib.rt:184:5
 loop-again : tie.Need-loop-again Inv-loop μ-loop
-loop-again c = search needs
+loop-again c =
+    let at-loop = c .before .before .before .before .before in (
+      refl,
+      ends-more _ _ (at-loop .loop .to) _ (at-loop .loop .inv .1)
+          (λ harvest day. finding-nothing _ _ (c .before .enum-told2 .given .1) (c .before .before .before .latest-start .ensures harvest day))
+          (c .next-deadline2 .ensures),
+    )
 
--- src/lib.rt:172:1
+-- src/lib.rt:178:1
 returns-2 : tie.Need-returns-2 Inv-loop μ-loop
-returns-2 c = search needs
+returns-2 c harvest day = sym (ap findingOf (ends-none _ _ (c .before .loop .to) harvest (c .before .loop .inv .1) (c .loop-test .left) day))
 
 pub smallest-end-spec : {M : Type 1} → statement M
 smallest-end-spec =
@@ -59,6 +84,7 @@ smallest-end-spec =
     latest-start-requires
     enum-told
     returns
+    enum-told-2
     next-deadline-requires-2
     loop-less
     loop-again
