@@ -1,2 +1,3 @@
 pub mod Findings
 pub mod Loops
+pub mod Promised

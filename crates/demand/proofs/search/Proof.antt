@@ -1,3 +1,11 @@
+-- The answer is the check's refusal, or what `smallest_end` found with the harvest's running totals.
+use mathlib.Core.Path.{_≡_, sym, _∙_}
+use native.Mathlib.Omega.{arith}
+use Rattle.sheet.proofs.Order.{says-gives}
+use Rattle.sheet.proofs.Theorems.{table-accepted-exactly}
+use Rattle.demand.specs.Steps.{DayOf}
+use Rattle.demand.proofs.Loops.{finding-interval, finding-nothing}
+use Rattle.demand.proofs.Promised.{search-refused, search-gives}
 use borrow.Author.Needs.{needs}
 use Rattle.demand.proofs.search.Statement.{statement}
 use Rattle.demand.proofs.search.Tie as tie
@@ -8,6 +16,16 @@ use Rattle.sheet.proofs.check.Reads as check-reads
 use Rattle.sheet.proofs.totals.Reads as totals-reads
 
 -- src/lib.rt:199:9
+-- past the check the table and the harvest are well formed, and every element of the harvest is a byte
+day : (c : tie.After-totals)
+    → let start = c .before .before .before .before .before in DayOf (start .args .t) (start .args .harvest .now) (c .totals .result)
+day c =
+    record {
+      good = table-accepted-exactly _ _ .0 (says-gives _ _ (c .before .enum-told .given .1) (c .before .before .before .check .ensures));
+      bytes = λ i. omega (arith, c .before .before .before .before .shared-slice-known .given i);
+      sums = c .totals .ensures;
+    }
+
 check-requires : tie.Need-check-requires
 check-requires c κs = search needs
 
@@ -17,7 +35,7 @@ enum-known-answer c = search needs
 
 -- src/lib.rt:201:9
 returns : tie.Need-returns
-returns c = ?
+returns c = search search-refused
 
 enum-told : tie.Need-enum-told
 enum-told c = search needs
@@ -28,7 +46,7 @@ totals-requires c κs = search needs
 
 -- src/lib.rt:204:11
 smallest-end-requires : tie.Need-smallest-end-requires
-smallest-end-requires c κs = ?
+smallest-end-requires c κs = (_, day (c .before))
 
 -- src/lib.rt:205:27
 enum-known-o : tie.Need-enum-known-o
@@ -40,11 +58,19 @@ enum-told-2 c = search needs
 
 -- src/lib.rt:196:1
 returns-2 : tie.Need-returns-2
-returns-2 c = ?
+returns-2 c =
+    let done = c .before .before .before in
+    let checked = done .before .before .before in
+    search-gives _ _ _ _ (checked .enum-told .given .1) (checked .before .before .check .ensures)
+    (finding-interval _ _ _ (c .before .o .given .1) (done .smallest-end .ensures _ (day (done .before .before))))
 
 -- src/lib.rt:196:1
 returns-3 : tie.Need-returns-3
-returns-3 c = ?
+returns-3 c =
+    let done = c .before .before in
+    let checked = done .before .before .before in
+    search-gives _ _ _ _ (checked .enum-told .given .1) (checked .before .before .check .ensures)
+    (finding-nothing _ _ (c .enum-told2 .given .1) (done .smallest-end .ensures _ (day (done .before .before))))
 
 pub search-spec : {M : Type 1} → statement M
 search-spec =
