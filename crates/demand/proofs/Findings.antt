@@ -1,6 +1,6 @@
 -- Laws of the search's definitions: what is found at one interval, among the starts for one end, and among the ends.
-use Prim.Native.Nat.{ℕ, zero, suc, _+_, _-_, _*_, _<_, _≤_}
-use mathlib.Core.Path.{_≡_, refl, sym, ap, _∙_, subst}
+use Prim.Native.Nat.{ℕ, zero, suc, _-_, _<_, _≤_}
+use mathlib.Core.Path.{_≡_, refl, ap, _∙_, subst}
 use mathlib.Core.Bool.{Bool, true, false, cond}
 use mathlib.Core.List.{List}
 use mathlib.Core.Logic.{_⊎_, inl, inr, ⊎-elim}
@@ -8,14 +8,34 @@ use native.Mathlib.Nat.{not-suc-le-zero}
 use native.Mathlib.Decide.{decLt}
 use native.Mathlib.Omega.{arith}
 use lib.Dec.{ltb}
-use borrow.Author.Tests.{ltb-true, ltb-false}
+use borrow.Author.Tests.{ltb-true, ltb-false, eq-eqb, eqb-true}
 use Rattle.sheet.proofs.Exactly.{either, never-both}
+use Rattle.sheet.proofs.Sums.{some-here, some-where}
+use Rattle.sheet.specs.Table.{jobOf}
 use Rattle.sheet.specs.declared.Table.{Table}
-use Rattle.demand.specs.Demand.{demandOf, supplyOf, Overloaded, overloaded}
+use Rattle.demand.specs.Demand.{Overloaded, overloaded}
 use Rattle.demand.specs.Search.{Found, interval, nothing, intervalOf, isRelease, isDeadline, foundAt, _or-else_, latestStart, smallestEnd}
 use Rattle.demand.specs.declared.Kind.{Kind}
 use Rattle.demand.specs.declared.Kind.the-variants.{Time, Energy}
 use Rattle.demand.specs.declared.Overload.{Overload}
+
+-- ---- a job's release and a job's deadline
+
+pub is-release : (t : Table) (k : ℕ) → k < t .count → isRelease t (jobOf t k .release) ≡ true
+unfolding isRelease
+is-release t k h = some-here _ (t .count) k h (eq-eqb (jobOf t k .release) _ refl)
+
+pub release-of : (t : Table) (slot : ℕ) → isRelease t slot ≡ true → (k : ℕ) × (k < t .count) × (jobOf t k .release ≡ slot)
+unfolding isRelease
+release-of t slot e = let w = some-where _ (t .count) e in (w .0, w .1, eqb-true _ _ (w .2))
+
+pub is-deadline : (t : Table) (k : ℕ) → k < t .count → isDeadline t (jobOf t k .deadline) ≡ true
+unfolding isDeadline
+is-deadline t k h = some-here _ (t .count) k h (eq-eqb (jobOf t k .deadline) _ refl)
+
+pub deadline-of : (t : Table) (slot : ℕ) → isDeadline t slot ≡ true → (k : ℕ) × (k < t .count) × (jobOf t k .deadline ≡ slot)
+unfolding isDeadline
+deadline-of t slot e = let w = some-where _ (t .count) e in (w .0, w .1, eqb-true _ _ (w .2))
 
 -- ---- one interval
 

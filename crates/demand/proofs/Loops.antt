@@ -1,5 +1,5 @@
 -- What the loops keep, and what that comes to at their end.
-use Prim.Native.Nat.{ℕ, zero, suc, _+_, _-_, _*_, _<_, _≤_}
+use Prim.Native.Nat.{ℕ, _+_, _-_, _*_, _<_, _≤_}
 use mathlib.Core.Path.{_≡_, refl, sym, ap, ap₂, _∙_, subst}
 use mathlib.Core.Bool.{Bool, true, false, cond}
 use mathlib.Core.List.{List}
@@ -7,42 +7,21 @@ use mathlib.Core.Logic.{_⊎_, inl, inr, ⊎-elim}
 use native.Mathlib.Nat.{not-suc-le-zero}
 use native.Mathlib.Decide.{decLt}
 use native.Mathlib.Omega.{arith}
-use lib.Dec.{eqb}
-use lib.ListN.{length, getD}
+use lib.ListN.{getD}
 use borrow.Author.Count.{below-more}
-use borrow.Author.Tests.{eq-eqb, ne-eqb, eqb-true}
-use Rattle.sheet.proofs.Exactly.{either, never-both}
-use Rattle.sheet.proofs.Sums.{some-here, some-where, some-not, total-more, total-bound, harvest-by-totals}
-use Rattle.sheet.specs.Sums.{totalOf, TotalsOf, harvestAt, harvestOf}
+use Rattle.sheet.proofs.Exactly.{either}
+use Rattle.sheet.proofs.Sums.{total-more, total-bound, harvest-by-totals}
+use Rattle.sheet.specs.Sums.{totalOf, harvestAt, harvestOf}
 use Rattle.sheet.specs.Table.{mostSlots, countedAs, jobOf}
-use Rattle.sheet.specs.WellFormed.{GoodTable}
 use Rattle.sheet.specs.declared.Table.{Table}
 use Rattle.demand.specs.Demand.{within, timeDemand, energyDemand, energySupply, overloaded}
 use Rattle.demand.specs.Search.{Found, interval, nothing, isRelease, isDeadline, foundAt, latestStart, smallestEnd}
-use Rattle.demand.specs.Steps.{DayOf, findingOf, supplyBy, foundBy, laterOf, NextDeadline}
+use Rattle.demand.specs.Steps.{largestU8, DayOf, findingOf, supplyBy, foundBy, laterOf, NextDeadline}
 use Rattle.demand.specs.declared.Latest.{Latest}
 use Rattle.demand.specs.declared.Overload.{Overload}
 use Rattle.demand.specs.declared.Finding.{Finding}
 use Rattle.demand.specs.declared.Finding.the-variants.{Interval, Nothing}
-use Rattle.demand.proofs.Findings.{startAt, LatestAt, found-or-not, when-nothing, latest-none, latest-here, endAt, SmallestAt, smallest-none, smallest-here}
-
--- ---- a job's release and a job's deadline
-
-pub is-release : (t : Table) (k : ℕ) → k < t .count → isRelease t (jobOf t k .release) ≡ true
-unfolding isRelease
-is-release t k h = some-here _ (t .count) k h (eq-eqb (jobOf t k .release) _ refl)
-
-pub release-of : (t : Table) (slot : ℕ) → isRelease t slot ≡ true → (k : ℕ) × (k < t .count) × (jobOf t k .release ≡ slot)
-unfolding isRelease
-release-of t slot e = let w = some-where _ (t .count) e in (w .0, w .1, eqb-true _ _ (w .2))
-
-pub is-deadline : (t : Table) (k : ℕ) → k < t .count → isDeadline t (jobOf t k .deadline) ≡ true
-unfolding isDeadline
-is-deadline t k h = some-here _ (t .count) k h (eq-eqb (jobOf t k .deadline) _ refl)
-
-pub deadline-of : (t : Table) (slot : ℕ) → isDeadline t slot ≡ true → (k : ℕ) × (k < t .count) × (jobOf t k .deadline ≡ slot)
-unfolding isDeadline
-deadline-of t slot e = let w = some-where _ (t .count) e in (w .0, w .1, eqb-true _ _ (w .2))
+use Rattle.demand.proofs.Findings.{is-release, release-of, is-deadline, deadline-of, startAt, found-or-not, when-nothing, latest-none, latest-here, endAt, smallest-none, smallest-here}
 
 -- ---- the next deadline, among the first k jobs
 
@@ -131,16 +110,20 @@ module _ (t : Table) (from to n : ℕ) where
 abbrev pub foundIn : Table → List ℕ → ℕ → ℕ → Found
 foundIn t totals to from = foundBy from to (timeDemand t from to) (energyDemand t from to) (supplyBy (t .capacity) totals from to)
 
-counted-at-most : (byte : ℕ) → byte < 256 → countedAs byte ≤ 255
+pub found-by-numbers : (t : Table) (totals : List ℕ) (from to time energy supply : ℕ) → time ≡ timeDemand t from to → energy ≡ energyDemand t from to
+    → supply ≡ supplyBy (t .capacity) totals from to → foundBy from to time energy supply ≡ foundIn t totals to from
+found-by-numbers t totals from to time energy supply p q r = rw (p, q, r)
+
+counted-at-most : (byte : ℕ) → byte < 256 → countedAs byte ≤ largestU8
 counted-at-most byte h = omega arith
 
 -- an entry is at most 255 for each slot
-pub totals-fit : (t : Table) (harvest totals : List ℕ) → DayOf t harvest totals → (to : ℕ) → to ≤ t .slots → getD totals to 0 ≤ 255 * mostSlots
+pub totals-fit : (t : Table) (harvest totals : List ℕ) → DayOf t harvest totals → (to : ℕ) → to ≤ t .slots → getD totals to 0 ≤ largestU8 * mostSlots
 totals-fit t harvest totals day to l =
     let fits = day .good .harvest-fits in
     let few = day .good .few-slots in
     let is = day .sums to (omega arith) (omega arith) in
-    let most = total-bound (harvestAt harvest) 255 to (λ k i. counted-at-most _ (day .bytes k)) in
+    let most = total-bound (harvestAt harvest) largestU8 to (λ k i. counted-at-most _ (day .bytes k)) in
     omega arith
 
 module _ (t : Table) (harvest totals : List ℕ) (day : DayOf t harvest totals) (from to : ℕ) (h : from ≤ to) (l : to ≤ t .slots) where
@@ -190,7 +173,7 @@ module _ (t : Table) (found : ℕ → Found) (to : ℕ) where
             below-more (λ i. latest .earliest ≤ jobOf t i .release → jobOf t i .release < to → found (jobOf t i .release) ≡ nothing) k (s .none-later) h;
       }
 
-  pub latest-moves : (k : ℕ) (latest : Latest) → LatestSoFar k latest → k < t .count → latest .earliest ≤ jobOf t k .release → jobOf t k .release < to
+  latest-moves : (k : ℕ) (latest : Latest) → LatestSoFar k latest → k < t .count → latest .earliest ≤ jobOf t k .release → jobOf t k .release < to
       → LatestSoFar (k + 1) (laterOf (jobOf t k .release) (found (jobOf t k .release)) latest)
   latest-moves k latest s h a b =
       ⊎-elim
@@ -207,6 +190,11 @@ module _ (t : Table) (found : ℕ → Found) (to : ℕ) where
             (λ l m. absurd (omega arith));
       }))
       (found-or-not (found (jobOf t k .release)))
+
+  -- the same, with what was compared and what came of it under their own names
+  pub latest-compared : (k : ℕ) (latest moved : Latest) (x : Found) → LatestSoFar k latest → k < t .count → latest .earliest ≤ jobOf t k .release
+      → jobOf t k .release < to → x ≡ found (jobOf t k .release) → moved ≡ laterOf (jobOf t k .release) x latest → LatestSoFar (k + 1) moved
+  latest-compared k latest moved x s h a b e m = rw (m, e) (latest-moves k latest s h a b)
 
   pub latest-found : (harvest : List ℕ) (latest : Latest) → ((from : ℕ) → from < to → found from ≡ foundAt t harvest from to)
       → LatestSoFar (t .count) latest → latest .found ≡ findingOf (latestStart t harvest to to)

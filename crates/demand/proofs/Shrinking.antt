@@ -1,17 +1,16 @@
 -- An overloaded interval with any slots as its ends contains one from a job's release to a job's deadline that is overloaded in the same kind.
 use Prim.Native.Nat.{ℕ, zero, suc, _+_, _-_, _*_, _<_, _≤_}
-use mathlib.Core.Path.{_≡_, refl, sym, ap, ap₂, _∙_, subst}
+use mathlib.Core.Path.{_≡_, refl, sym, ap, _∙_, subst}
 use mathlib.Core.Bool.{Bool, true, false, cond, _&&_}
 use mathlib.Core.List.{List}
 use mathlib.Core.Logic.{_⊎_, inl, inr, ⊎-elim}
 use native.Mathlib.Decide.{decLt, decLe}
 use native.Mathlib.Numerals.{add-one}
 use native.Mathlib.Omega.{arith}
-use lib.Dec.{leb, eqb}
+use lib.Dec.{leb}
 use borrow.Author.Tests.{le-leb, lt-leb, eqb-false}
 use Rattle.sheet.proofs.Exactly.{either, never-both}
 use Rattle.sheet.proofs.Sums.{total-same, total-bound, not-some, harvest-grows}
-use Rattle.sheet.specs.Sums.{totalOf, harvestOf}
 use Rattle.sheet.specs.Table.{jobOf}
 use Rattle.sheet.specs.WellFormed.{GoodTable}
 use Rattle.sheet.specs.declared.Table.{Table}
@@ -38,13 +37,13 @@ module _ (t : Table) where
   unfolding timeDemand energyDemand
   demand-none Time from to none =
       let most =
-          total-bound (λ k. cond (within from to (jobOf t k)) (jobOf t k .wanted) 0) 0 (t .count)
-          (λ k h. let e = ap (λ (b : Bool). cond b (jobOf t k .wanted) 0) (none k h) in omega arith) in
+      total-bound (λ k. cond (within from to (jobOf t k)) (jobOf t k .wanted) 0) 0 (t .count)
+      (λ k h. let e = ap (λ (b : Bool). cond b (jobOf t k .wanted) 0) (none k h) in omega arith) in
       omega arith
   demand-none Energy from to none =
       let most =
-          total-bound (λ k. cond (within from to (jobOf t k)) (jobOf t k .wanted * jobOf t k .energy) 0) 0 (t .count)
-          (λ k h. let e = ap (λ (b : Bool). cond b (jobOf t k .wanted * jobOf t k .energy) 0) (none k h) in omega arith) in
+      total-bound (λ k. cond (within from to (jobOf t k)) (jobOf t k .wanted * jobOf t k .energy) 0) 0 (t .count)
+      (λ k h. let e = ap (λ (b : Bool). cond b (jobOf t k .wanted * jobOf t k .energy) 0) (none k h) in omega arith) in
       omega arith
 
 -- ---- supply: no less in a longer interval

@@ -2,26 +2,26 @@
 -- computes those.
 use Prim.Native.Nat.{ℕ, _+_, _-_, _<_, _≤_}
 use mathlib.Core.Path.{_≡_, refl, sym, ap, _∙_, subst}
-use mathlib.Core.Bool.{Bool, true, false, cond}
+use mathlib.Core.Bool.{cond}
 use mathlib.Core.List.{List}
-use mathlib.Core.Logic.{_⊎_, inl, inr, ⊎-elim}
+use mathlib.Core.Logic.{_⊎_, ⊎-elim}
 use native.Mathlib.Decide.{decLt}
 use native.Mathlib.Omega.{arith}
 use lib.Dec.{eqb}
-use Rattle.sheet.specs.Paper.{Paper, gives, refuses, refusesAt}
-use Rattle.sheet.specs.Table.{jobOf}
+use Rattle.sheet.specs.Paper.{Paper, Check, gives, refuses, refusesAt, _else_}
+use Rattle.sheet.specs.Table.{jobOf, tableSays}
+use Rattle.sheet.proofs.Theorems.{table-accepted-exactly}
 use Rattle.sheet.specs.WellFormed.{GoodTable}
 use Rattle.sheet.specs.declared.Refusal.the-variants.{Short, Mark, Counts, Layout, Window, Work}
 use Rattle.sheet.specs.declared.Table.{Table}
 use Rattle.demand.specs.Demand.{demandOf, supplyOf, Overloaded}
-use Rattle.demand.specs.Search.{Found, interval, nothing, searchedSays, intervalOf, isRelease, isDeadline, foundAt, latestStart, smallestEnd}
+use Rattle.demand.specs.Search.{Found, interval, nothing, searchedSays, intervalOf, isRelease, isDeadline, foundAt, smallestEnd, searchOf}
 use Rattle.demand.specs.declared.Kind.{Kind}
-use Rattle.demand.specs.declared.Kind.the-variants.{Time, Energy}
+use Rattle.demand.specs.declared.Kind.the-variants.{Time}
 use Rattle.demand.specs.declared.Overload.{Overload}
 use Rattle.demand.specs.declared.Searched.{Searched}
 use Rattle.demand.specs.declared.Searched.the-variants as Searched
-use Rattle.demand.proofs.Findings.{startAt, endAt, found-as, found-nothing, nothing-not, nothing-when, interval-when, latest-clear, latest-finds, smallest-clear, smallest-finds}
-use Rattle.demand.proofs.Loops.{release-of, deadline-of}
+use Rattle.demand.proofs.Findings.{release-of, deadline-of, startAt, endAt, found-as, found-nothing, nothing-not, nothing-when, interval-when, latest-clear, latest-finds, smallest-clear, smallest-finds}
 use Rattle.demand.proofs.Shrinking.{shrinks}
 
 -- ---- what is answered
@@ -124,6 +124,29 @@ module _ (t : Table) (harvest : List ℕ) where
     pub search-clear : smallestEnd t harvest (t .slots) ≡ nothing → (kind : Kind) (from to : ℕ) → from < to → to ≤ t .slots → Overloaded kind t harvest from to → ⊥
     search-clear e kind from to h l =
         none-before (t .slots + 1) (λ i a b. smallest-clear t harvest (t .slots) e i a (omega arith)) kind from to h (omega arith)
+
+-- ---- the same of the answers that the promise allows
+
+given-after : (a : Check) (b x : Found) → a else gives b ≡ gives x → (a ≡ gives tt) × (b ≡ x)
+given-after (gives u) b x e = (refl, cc)
+given-after (refuses n) b x e = (cc, cc)
+given-after (refusesAt n k) b x e = (cc, cc)
+
+given : (t : Table) (harvest : List ℕ) (x : Found) → gives x ≡ searchOf t harvest → GoodTable t harvest × (smallestEnd t harvest (t .slots) ≡ x)
+unfolding searchOf
+given t harvest x e =
+    let both = given-after (tableSays t harvest) (smallestEnd t harvest (t .slots)) x (sym e) in
+    (table-accepted-exactly t harvest .0 (both .0), both .1)
+
+-- an interval is answered of a well-formed table and harvest only, and it is the overloaded one that comes first
+pub overload-answered : (t : Table) (harvest : List ℕ) (o : Overload) → searchedSays (Searched.Overloaded o) ≡ searchOf t harvest
+    → GoodTable t harvest × ComesFirst t harvest o
+overload-answered t harvest o e = let w = given t harvest (interval o) e in (w .0, search-finds t harvest (w .0) o (w .1))
+
+-- no interval is answered of a well-formed table and harvest only, and then none is overloaded
+pub clear-answered : (t : Table) (harvest : List ℕ) → searchedSays Searched.Clear ≡ searchOf t harvest
+    → GoodTable t harvest × ((kind : Kind) (from to : ℕ) → from < to → to ≤ t .slots → Overloaded kind t harvest from to → ⊥)
+clear-answered t harvest e = let w = given t harvest nothing e in (w .0, search-clear t harvest (w .0) (w .1))
 
 -- ---- one answer
 

@@ -2,7 +2,7 @@
 use Prim.Native.Nat.{ℕ, _+_, _-_, _≤_, _<_}
 use mathlib.Core.Path.{_≡_}
 use mathlib.Core.List.{List}
-use mathlib.Core.Bool.{Bool, true, false, cond}
+use mathlib.Core.Bool.{true, false, cond}
 use lib.Dec.{ltb}
 use lib.ListN.{getD}
 use Rattle.sheet.specs.Sums.{TotalsOf}
@@ -13,6 +13,13 @@ use Rattle.demand.specs.declared.Kind.the-variants.{Time, Energy}
 use Rattle.demand.specs.declared.Latest.{Latest}
 use Rattle.demand.specs.declared.Finding.{Finding}
 use Rattle.demand.specs.declared.Finding.the-variants.{Interval, Nothing}
+
+-- the largest numbers that a u16 and a u8 hold
+abbrev pub largestU16 : ℕ
+largestU16 = 65535
+
+abbrev pub largestU8 : ℕ
+largestU8 = 255
 
 -- a well-formed day, with the running totals of its harvest
 pub record DayOf (t : Table) (harvest totals : List ℕ) : Type 0 where

@@ -10,7 +10,7 @@ ghost use lib.ListN.{getD};
 ghost use Prim.Native.Nat.{ℕ, _*_, _<_, _≤_};
 ghost use Rattle.sheet.specs.Table.{mostJobs, mostSlots};
 ghost use Rattle.demand.specs.Search.{searchedSays, searchOf, latestStart, smallestEnd};
-ghost use Rattle.demand.specs.Steps.{DayOf, TotalsLent, findingOf, foundBy, laterOf, supplyBy, NextDeadline};
+ghost use Rattle.demand.specs.Steps.{largestU16, largestU8, DayOf, TotalsLent, findingOf, foundBy, laterOf, supplyBy, NextDeadline};
 
 // The two kinds of demand: slots of time, and charge.
 pub enum Kind {
@@ -38,6 +38,9 @@ pub enum Searched {
     Clear,
 }
 
+// The running totals of a harvest, as `sheet::totals` answers them.
+type Totals = [u32; 1441];
+
 // A job with this release and deadline is one of the interval's.
 fn is_within(from: u16, to: u16, release: u16, deadline: u16) -> bool
     ensures { λ r. ⌜ r ≡ (leb from release && leb deadline to) ⌝ }
@@ -47,14 +50,14 @@ fn is_within(from: u16, to: u16, release: u16, deadline: u16) -> bool
 
 // A u16, to be summed.
 fn wide(number: u16) -> u32
-    ensures { λ r. ⌜ (r ≡ number) × (r ≤ 65535) ⌝ }
+    ensures { λ r. ⌜ (r ≡ number) × (r ≤ largestU16) ⌝ }
 {
     number as u32
 }
 
 // What all the slots that a job wants cost.
 fn cost(wanted: u16, energy: u8) -> u32
-    ensures { λ r. ⌜ (r ≡ wanted * energy) × (r ≤ 65535 * 255) ⌝ }
+    ensures { λ r. ⌜ (r ≡ wanted * energy) × (r ≤ largestU16 * largestU8) ⌝ }
 {
     wanted as u32 * energy as u32
 }
@@ -63,17 +66,13 @@ fn cost(wanted: u16, energy: u8) -> u32
 fn counted_if(counts: bool, amount: u32) -> u32
     ensures { λ r. ⌜ (r ≡ cond counts amount 0) × (r ≤ amount) ⌝ }
 {
-    if counts {
-        amount
-    } else {
-        0
-    }
+    if counts { amount } else { 0 }
 }
 
 // Energy supply: capacity plus the harvest of the slots from .. to - 1, read off running totals.
-fn energy_supply(capacity: u16, totals: &[u32; 1441], from: u16, to: u16) -> u32
+fn energy_supply(capacity: u16, totals: &Totals, from: u16, to: u16) -> u32
     requires { ⌜ (from ≤ to) × (to ≤ mostSlots) ⌝ }
-    requires { ⌜ (getD (now totals) from 0 ≤ getD (now totals) to 0) × (getD (now totals) to 0 ≤ 255 * mostSlots) ⌝ }
+    requires { ⌜ (getD (now totals) from 0 ≤ getD (now totals) to 0) × (getD (now totals) to 0 ≤ largestU8 * mostSlots) ⌝ }
     ensures { λ r. ⌜ r ≡ supplyBy capacity (now (totals .entry)) from to ⌝ }
 {
     capacity as u32 + totals[to as usize] - totals[from as usize]
@@ -99,6 +98,7 @@ fn compared(latest: Latest, from: u16, to: u16, time: u32, energy: u32, supply: 
     ensures { λ r. ⌜ r ≡ laterOf from (foundBy from to time energy supply) latest ⌝ }
 {
     let slots = (to - from) as u32;
+    let earliest = from + 1;
     if slots < time {
         return Latest {
             found: Finding::Interval(Overload {
@@ -108,7 +108,7 @@ fn compared(latest: Latest, from: u16, to: u16, time: u32, energy: u32, supply: 
                 demand: time,
                 supply: slots,
             }),
-            earliest: from + 1,
+            earliest,
         };
     }
     if supply < energy {
@@ -120,7 +120,7 @@ fn compared(latest: Latest, from: u16, to: u16, time: u32, energy: u32, supply: 
                 demand: energy,
                 supply,
             }),
-            earliest: from + 1,
+            earliest,
         };
     }
     latest
@@ -129,7 +129,7 @@ fn compared(latest: Latest, from: u16, to: u16, time: u32, energy: u32, supply: 
 // The overloaded interval with the latest start among those from a job's release to this end. The
 // table is an accepted one, with the running totals of its harvest. The jobs are summed up here, in
 // a loop in the loop, so that the table is handed over once for each end only.
-fn latest_start(t: Table, totals: &[u32; 1441], to: u16) -> Finding
+fn latest_start(t: Table, totals: &Totals, to: u16) -> Finding
     requires { ⌜ (to ≤ t .slots) × TotalsLent t (now totals) ⌝ }
     ensures { λ r. ⌜ ((harvest : List ℕ) → DayOf t harvest (now (totals .entry)) → r ≡ findingOf (latestStart t harvest to to)) ⌝ }
 {
@@ -175,7 +175,7 @@ fn next_deadline(t: Table, after: u16) -> u16
 
 // The overloaded interval with the smallest end, then the latest start: the deadlines upwards. The
 // table is an accepted one, with the running totals of its harvest.
-fn smallest_end(t: Table, totals: &[u32; 1441]) -> Finding
+fn smallest_end(t: Table, totals: &Totals) -> Finding
     requires { ⌜ TotalsLent t (now totals) ⌝ }
     ensures { λ r. ⌜ ((harvest : List ℕ) → DayOf t harvest (now (totals .entry)) → r ≡ findingOf (smallestEnd t harvest (t .slots))) ⌝ }
 {

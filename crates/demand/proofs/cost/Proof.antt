@@ -5,8 +5,6 @@ use native.Mathlib.Nat.{mul-le-mul}
 use native.Mathlib.Omega.{arith}
 use Rattle.demand.proofs.cost.Statement.{statement}
 use Rattle.demand.proofs.cost.Tie as tie
-use Rattle.demand.proofs.cost.Reads as reads
-use Rattle.demand.proofs.cost.Lts as lts
 
 at-most : (c : tie.Start) → c .args .wanted * c .args .energy ≤ 65535 * 255
 at-most c =

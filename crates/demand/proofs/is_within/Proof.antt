@@ -2,8 +2,6 @@
 use Rattle.sheet.proofs.Tests.{tests}
 use Rattle.demand.proofs.is_within.Statement.{statement}
 use Rattle.demand.proofs.is_within.Tie as tie
-use Rattle.demand.proofs.is_within.Reads as reads
-use Rattle.demand.proofs.is_within.Lts as lts
 
 returns : tie.Need-returns
 returns c = search tests

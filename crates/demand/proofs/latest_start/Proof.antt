@@ -1,28 +1,19 @@
 -- The inner loop keeps the two demands of the jobs before i; the outer one keeps the latest start among the releases of the jobs before k.
-use Prim.Native.Nat.{ℕ, _+_, _-_, _*_, _<_, _≤_}
-use mathlib.Core.Path.{_≡_, refl, sym, ap, ap₂, _∙_, subst}
-use mathlib.Core.Bool.{Bool, cond}
+use Prim.Native.Nat.{_-_, _*_, _<_, _≤_}
+use mathlib.Core.Path.{_≡_, refl, sym, _∙_}
 use mathlib.Core.Logic.{⊎-elim}
 use native.Mathlib.Omega.{arith}
 use borrow.Author.Tests.{leb-true, leb-false}
 use Rattle.sheet.proofs.Sums.{total-none}
 use Rattle.sheet.specs.Table.{jobOf}
-use Rattle.demand.specs.Steps.{foundBy, laterOf}
-use Rattle.demand.proofs.Loops.{timeUpTo, energyUpTo, time-more, energy-more, time-all, energy-all, foundIn, found-in, totals-grow, totals-fit, LatestSoFar, latest-at-first, latest-stays, latest-moves, latest-found}
+use Rattle.demand.specs.Steps.{largestU16, largestU8}
+use Rattle.demand.proofs.Loops.{timeUpTo, energyUpTo, time-more, energy-more, time-all, energy-all, foundIn, found-by-numbers, found-in, totals-grow, totals-fit, LatestSoFar, latest-at-first, latest-stays, latest-compared, latest-found}
 use borrow.Author.Needs.{needs}
 use Rattle.demand.proofs.latest_start.Statement.{statement}
 use Rattle.demand.proofs.latest_start.Tie as tie
-use Rattle.demand.proofs.latest_start.Reads as reads
-use Rattle.demand.proofs.latest_start.Lts as lts
-use Rattle.demand.proofs.compared.Reads as compared-reads
-use Rattle.demand.proofs.cost.Reads as cost-reads
-use Rattle.demand.proofs.counted_if.Reads as counted-if-reads
-use Rattle.demand.proofs.energy_supply.Reads as energy-supply-reads
-use Rattle.demand.proofs.is_within.Reads as is-within-reads
-use Rattle.demand.proofs.wide.Reads as wide-reads
 
 abbrev Inv-loop2 : tie.InvT-loop2
-Inv-loop2 totals to t count latest k from time₀ energy₀ i₀ time energy i = (i ≤ count) × (time ≡ timeUpTo t from to i) × (energy ≡ energyUpTo t from to i) × (time ≤ 65535 * i) × (energy ≤ 65535 * 255 * i)
+Inv-loop2 totals to t count latest k from time₀ energy₀ i₀ time energy i = (i ≤ count) × (time ≡ timeUpTo t from to i) × (energy ≡ energyUpTo t from to i) × (time ≤ largestU16 * i) × (energy ≤ largestU16 * largestU8 * i)
 
 abbrev μ-loop2 : tie.MeasureT-loop2
 μ-loop2 totals to t count latest k from time₀ energy₀ i₀ time energy i = count - i
@@ -33,7 +24,6 @@ Inv-loop totals to t count latest₀ k₀ latest k = (count ≡ t .count) × (k 
 abbrev μ-loop : tie.MeasureT-loop
 μ-loop totals to t count latest₀ k₀ latest k = count - k
 
--- src/lib.rt:135:5
 -- past the test a start lies before the end
 before-end : (c : tie.Else2 Inv-loop2 μ-loop2 Inv-loop μ-loop)
     → let at-loop = c .before .before .before .before in
@@ -43,23 +33,18 @@ before-end c = leb-false _ _ (c .if2 .left)
 loop-holds : tie.Need-loop-holds Inv-loop2 μ-loop2 Inv-loop μ-loop
 loop-holds c = (refl, search needs, latest-at-first _ _ _)
 
--- src/lib.rt:136:20
 mul-from : tie.Need-mul-from Inv-loop2 μ-loop2 Inv-loop μ-loop
 mul-from c = search needs
 
--- src/lib.rt:136:13
 element-copy-out-from : tie.Need-element-copy-out-from Inv-loop2 μ-loop2 Inv-loop μ-loop
 element-copy-out-from c = search needs
 
--- src/lib.rt:138:13
 add-k : tie.Need-add-k Inv-loop2 μ-loop2 Inv-loop μ-loop
 add-k c = search needs
 
--- src/lib.rt:135:5
 loop-less : tie.Need-loop-less Inv-loop2 μ-loop2 Inv-loop μ-loop
 loop-less c = search needs
 
--- src/lib.rt:135:5
 loop-again : tie.Need-loop-again Inv-loop2 μ-loop2 Inv-loop μ-loop
 loop-again c =
     let at-loop = c .before .before .before in
@@ -77,55 +62,42 @@ loop-again c =
           (c .if1 .came))),
     )
 
--- src/lib.rt:142:9
 loop2-holds : tie.Need-loop2-holds Inv-loop2 μ-loop2 Inv-loop μ-loop
 loop2-holds c = (search needs, sym (total-none _), sym (total-none _), search needs, search needs)
 
--- src/lib.rt:143:21
 mul-j : tie.Need-mul-j Inv-loop2 μ-loop2 Inv-loop μ-loop
 mul-j c = search needs
 
--- src/lib.rt:143:21
 element-copy-out-j : tie.Need-element-copy-out-j Inv-loop2 μ-loop2 Inv-loop μ-loop
 element-copy-out-j c = search needs
 
--- src/lib.rt:144:17
 is-within-requires : tie.Need-is-within-requires Inv-loop2 μ-loop2 Inv-loop μ-loop
 is-within-requires c κs = search needs
 
--- src/lib.rt:145:40
 wide-requires : tie.Need-wide-requires Inv-loop2 μ-loop2 Inv-loop μ-loop
 wide-requires c κs = search needs
 
--- src/lib.rt:145:21
 counted-if-requires : tie.Need-counted-if-requires Inv-loop2 μ-loop2 Inv-loop μ-loop
 counted-if-requires c κs = search needs
 
--- src/lib.rt:145:13
 add-time : tie.Need-add-time Inv-loop2 μ-loop2 Inv-loop μ-loop
 add-time c = search needs
 
--- src/lib.rt:146:42
 cost-requires : tie.Need-cost-requires Inv-loop2 μ-loop2 Inv-loop μ-loop
 cost-requires c κs = search needs
 
--- src/lib.rt:146:23
 counted-if-requires-2 : tie.Need-counted-if-requires-2 Inv-loop2 μ-loop2 Inv-loop μ-loop
 counted-if-requires-2 c κs = search needs
 
--- src/lib.rt:146:13
 add-energy : tie.Need-add-energy Inv-loop2 μ-loop2 Inv-loop μ-loop
 add-energy c = search needs
 
--- src/lib.rt:142:13
 add-i : tie.Need-add-i Inv-loop2 μ-loop2 Inv-loop μ-loop
 add-i c = search needs
 
--- src/lib.rt:142:9
 loop2-less : tie.Need-loop2-less Inv-loop2 μ-loop2 Inv-loop μ-loop
 loop2-less c = search needs
 
--- src/lib.rt:142:9
 loop2-again : tie.Need-loop2-again Inv-loop2 μ-loop2 Inv-loop μ-loop
 loop2-again c =
     let at-loop2 = c .before .before .before .before .before .before .before in
@@ -139,7 +111,6 @@ loop2-again c =
     let energy = energy-more t from to i _ _ _ counts (c .before .cost .ensures .0) (c .counted-if2 .ensures .0) in
     (search needs, omega arith, omega arith, search needs, search needs)
 
--- src/lib.rt:148:13
 energy-supply-requires : tie.Need-energy-supply-requires Inv-loop2 μ-loop2 Inv-loop μ-loop
 energy-supply-requires c κs =
     let start = c .before .before .before .before .before .before .before in
@@ -150,19 +121,15 @@ energy-supply-requires c κs =
       (totals-grow _ _ _ day _ _ (omega arith) (start .pre .0), totals-fit _ _ _ day _ (start .pre .0)),
     )
 
--- src/lib.rt:149:9
 compared-requires : tie.Need-compared-requires Inv-loop2 μ-loop2 Inv-loop μ-loop
 compared-requires c κs = before-end (c .before .before .before)
 
--- src/lib.rt:135:9
 add-k-2 : tie.Need-add-k-2 Inv-loop2 μ-loop2 Inv-loop μ-loop
 add-k-2 c = search needs
 
--- src/lib.rt:135:5
 loop-less-2 : tie.Need-loop-less-2 Inv-loop2 μ-loop2 Inv-loop μ-loop
 loop-less-2 c = search needs
 
--- src/lib.rt:135:5
 loop-again-2 : tie.Need-loop-again-2 Inv-loop2 μ-loop2 Inv-loop μ-loop
 loop-again-2 c =
     let summed = c .before .before .before in
@@ -173,16 +140,16 @@ loop-again-2 c =
     let totals = at-loop .before .args .totals .now in
     let from = jobOf t (at-loop .loop .k) .release in
     let all : summed .loop2 .i ≡ t .count = omega arith in
-    let time = summed .loop2 .inv .1 ∙ time-all t from to _ all in
-    let energy = summed .loop2 .inv .2 ∙ energy-all t from to _ all in
-    let supply = c .before .energy-supply .ensures in
-    let found : c .compared .result ≡ laterOf from (foundIn t totals to from) (at-loop .loop .latest) = c .compared .ensures ∙ cc in (
+    let found =
+    found-by-numbers t totals from to _ _ _
+    (summed .loop2 .inv .1 ∙ time-all t from to _ all)
+    (summed .loop2 .inv .2 ∙ energy-all t from to _ all)
+    (c .before .energy-supply .ensures) in (
       refl,
       search needs,
-      rw found (latest-moves t _ to _ _ (at-loop .loop .inv .2) (omega arith) (begun .before .if1 .left) (before-end begun)),
+      latest-compared t _ to _ _ _ _ (at-loop .loop .inv .2) (omega arith) (begun .before .if1 .left) (before-end begun) found (c .compared .ensures),
     )
 
--- src/lib.rt:126:1
 returns : tie.Need-returns Inv-loop2 μ-loop2 Inv-loop μ-loop
 returns c harvest day =
     let t = c .before .before .args .t1 in

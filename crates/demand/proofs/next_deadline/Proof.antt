@@ -8,8 +8,6 @@ use Rattle.demand.proofs.Loops.{NextSoFar, next-none, next-stays, next-
 use borrow.Author.Needs.{needs}
 use Rattle.demand.proofs.next_deadline.Statement.{statement}
 use Rattle.demand.proofs.next_deadline.Tie as tie
-use Rattle.demand.proofs.next_deadline.Reads as reads
-use Rattle.demand.proofs.next_deadline.Lts as lts
 
 abbrev Inv-loop : tie.InvT-loop
 Inv-loop after t count next₀ k₀ next k = (count ≡ t .count) × (k ≤ count) × NextSoFar t after k next

@@ -1,5 +1,4 @@
 -- The answer is the check's refusal, or what `smallest_end` found with the harvest's running totals.
-use mathlib.Core.Path.{_≡_, sym, _∙_}
 use native.Mathlib.Omega.{arith}
 use Rattle.sheet.proofs.Order.{says-gives}
 use Rattle.sheet.proofs.Theorems.{table-accepted-exactly}
@@ -9,13 +8,7 @@ use Rattle.demand.proofs.Promised.{search-refused, search-gives}
 use borrow.Author.Needs.{needs}
 use Rattle.demand.proofs.search.Statement.{statement}
 use Rattle.demand.proofs.search.Tie as tie
-use Rattle.demand.proofs.search.Reads as reads
-use Rattle.demand.proofs.search.Lts as lts
-use Rattle.demand.proofs.smallest_end.Reads as smallest-end-reads
-use Rattle.sheet.proofs.check.Reads as check-reads
-use Rattle.sheet.proofs.totals.Reads as totals-reads
 
--- src/lib.rt:199:9
 -- past the check the table and the harvest are well formed, and every element of the harvest is a byte
 day : (c : tie.After-totals)
     → let start = c .before .before .before .before .before in DayOf (start .args .t) (start .args .harvest .now) (c .totals .result)
@@ -29,34 +22,27 @@ day c =
 check-requires : tie.Need-check-requires
 check-requires c κs = search needs
 
--- src/lib.rt:200:29
 enum-known-answer : tie.Need-enum-known-answer
 enum-known-answer c = search needs
 
--- src/lib.rt:201:9
 returns : tie.Need-returns
 returns c = search search-refused
 
 enum-told : tie.Need-enum-told
 enum-told c = search needs
 
--- src/lib.rt:203:18
 totals-requires : tie.Need-totals-requires
 totals-requires c κs = search needs
 
--- src/lib.rt:204:11
 smallest-end-requires : tie.Need-smallest-end-requires
 smallest-end-requires c κs = (_, day (c .before))
 
--- src/lib.rt:205:27
 enum-known-o : tie.Need-enum-known-o
 enum-known-o c = search needs
 
--- src/lib.rt:206:29
 enum-told-2 : tie.Need-enum-told-2
 enum-told-2 c = search needs
 
--- src/lib.rt:196:1
 returns-2 : tie.Need-returns-2
 returns-2 c =
     let done = c .before .before .before in
@@ -64,7 +50,6 @@ returns-2 c =
     search-gives _ _ _ _ (checked .enum-told .given .1) (checked .before .before .check .ensures)
     (finding-interval _ _ _ (c .before .o .given .1) (done .smallest-end .ensures _ (day (done .before .before))))
 
--- src/lib.rt:196:1
 returns-3 : tie.Need-returns-3
 returns-3 c =
     let done = c .before .before in

@@ -1,5 +1,5 @@
 -- The loop keeps: no end before `to`, the next deadline, gives anything.
-use Prim.Native.Nat.{ℕ, _+_, _-_, _≤_}
+use Prim.Native.Nat.{_+_, _-_}
 use mathlib.Core.Path.{_≡_, refl, sym, ap, _∙_}
 use native.Mathlib.Omega.{arith}
 use Rattle.demand.specs.Steps.{findingOf}
@@ -7,10 +7,6 @@ use Rattle.demand.proofs.Loops.{EndsSoFar, ends-at-first, ends-more, en
 use borrow.Author.Needs.{needs}
 use Rattle.demand.proofs.smallest_end.Statement.{statement}
 use Rattle.demand.proofs.smallest_end.Tie as tie
-use Rattle.demand.proofs.smallest_end.Reads as reads
-use Rattle.demand.proofs.smallest_end.Lts as lts
-use Rattle.demand.proofs.latest_start.Reads as latest-start-reads
-use Rattle.demand.proofs.next_deadline.Reads as next-deadline-reads
 
 abbrev Inv-loop : tie.InvT-loop
 Inv-loop t totals slots to₀ to = (slots ≡ t .slots) × EndsSoFar t totals to
@@ -18,23 +14,18 @@ Inv-loop t totals slots to₀ to = (slots ≡ t .slots) × EndsSoFar t totals to
 abbrev μ-loop : tie.MeasureT-loop
 μ-loop t totals slots to₀ to = slots + 1 - to
 
--- src/lib.rt:183:9
 next-deadline-requires : tie.Need-next-deadline-requires Inv-loop μ-loop
 next-deadline-requires c κs = let good = c .pre .1 .good in (good .few-jobs, good .few-slots, search needs)
 
--- src/lib.rt:184:5
 loop-holds : tie.Need-loop-holds Inv-loop μ-loop
 loop-holds c = (refl, ends-at-first _ _ _ (c .next-deadline .ensures))
 
--- src/lib.rt:185:13
 latest-start-requires : tie.Need-latest-start-requires Inv-loop μ-loop
 latest-start-requires c κs = (c .loop-test .taken, c .before .before .before .pre)
 
--- src/lib.rt:187:13
 enum-told : tie.Need-enum-told Inv-loop μ-loop
 enum-told c = search needs
 
--- src/lib.rt:187:13
 returns : tie.Need-returns Inv-loop μ-loop
 returns c harvest day =
     let at-loop = c .before .before .before .before in
@@ -48,18 +39,15 @@ returns c harvest day =
 enum-told-2 : tie.Need-enum-told-2 Inv-loop μ-loop
 enum-told-2 c = search needs
 
--- src/lib.rt:189:9
 next-deadline-requires-2 : tie.Need-next-deadline-requires-2 Inv-loop μ-loop
 next-deadline-requires-2 c κs =
     let at-loop = c .before .before .before .before in
     let good = at-loop .before .before .pre .1 .good in
     (good .few-jobs, good .few-slots, c .before .before .before .loop-test .taken)
 
--- src/lib.rt:184:5
 loop-less : tie.Need-loop-less Inv-loop μ-loop
 loop-less c = let next = c .next-deadline2 .ensures in omega arith
 
--- src/lib.rt:184:5
 loop-again : tie.Need-loop-again Inv-loop μ-loop
 loop-again c =
     let at-loop = c .before .before .before .before .before in (
@@ -69,7 +57,6 @@ loop-again c =
           (c .next-deadline2 .ensures),
     )
 
--- src/lib.rt:178:1
 returns-2 : tie.Need-returns-2 Inv-loop μ-loop
 returns-2 c harvest day = sym (ap findingOf (ends-none _ _ (c .before .loop .to) harvest (c .before .loop .inv .1) (c .loop-test .left) day))
 
