@@ -1,7 +1,7 @@
 // The day sheet's table: its jobs, its slots and its capacity, and the check that every call makes
 // of a table and a harvest that are handed to it in place of a sheet.
 ghost use mathlib.Core.Path.{_≡_};
-ghost use Prim.Native.Nat.{min, _≤_};
+ghost use Prim.Native.Nat.{min, _*_, _≤_};
 ghost use Rattle.sheet.specs.Sums.{TotalsOf, SmallTotals};
 ghost use Rattle.sheet.specs.Refusals.{outcomeSays, refusalNumber};
 ghost use Rattle.sheet.specs.Table.{mostJobs, mostSlots, countedAs, countsFault, windowFault, workFault, recordSays, recordsSay, tableSays};
@@ -56,6 +56,20 @@ pub fn counted(byte: u8) -> u16
     ensures { λ r. ⌜ (r ≡ countedAs byte) × (r ≤ 255) ⌝ }
 {
     byte as u16
+}
+
+// A number of a table or a state, as wide as the sums of such numbers.
+pub fn wide(number: u16) -> u32
+    ensures { λ r. ⌜ (r ≡ number) × (r ≤ 65535) ⌝ }
+{
+    number as u32
+}
+
+// What all the slots that a job wants cost: slots wanted × energy.
+pub fn cost(wanted: u16, energy: u8) -> u32
+    ensures { λ r. ⌜ (r ≡ wanted * energy) × (r ≤ 65535 * 255) ⌝ }
+{
+    wanted as u32 * energy as u32
 }
 
 // 3 applies: more than 64 jobs, or slots 0 or above 1,440.

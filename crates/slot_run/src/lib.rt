@@ -91,13 +91,6 @@ enum Chosen {
     Job(usize, u16),
 }
 
-// A number of a table or a state, as wide as the sums of such numbers.
-fn wide(number: u16) -> u32
-    ensures { λ r. ⌜ (r ≡ number) × (r ≤ 65535) ⌝ }
-{
-    number as u32
-}
-
 // An energy, as wide.
 fn widened(energy: u8) -> u32
     ensures { λ r. ⌜ (r ≡ energy) × (r ≤ 255) ⌝ }
@@ -205,7 +198,7 @@ fn no_slack(t: Table, s: State) -> bool
                     pending += pending_part(slot, end, t.jobs[i].deadline, s.left[i]);
                     i += 1;
                 }
-                if wide(end) <= wide(slot) + pending {
+                if sheet::wide(end) <= sheet::wide(slot) + pending {
                     return true;
                 }
             }
@@ -222,17 +215,10 @@ fn coming_part(slot: u16, end: u16, j: Job) -> u32
 {
     if slot < j.release {
         if j.deadline <= end {
-            return work(j.wanted, j.energy);
+            return sheet::cost(j.wanted, j.energy);
         }
     }
     0
-}
-
-// Slots wanted × energy.
-fn work(wanted: u16, energy: u8) -> u32
-    ensures { λ r. ⌜ (r ≡ wanted * energy) × (r ≤ 65535 * 255) ⌝ }
-{
-    wanted as u32 * energy as u32
 }
 
 // The level and the harvest of the slots from .. to - 1 are less than what is needed.
@@ -242,7 +228,7 @@ fn falls_short(totals: &[u32; 1441], level: u16, from: u16, to: u16, needed: u32
 {
     let start = from as usize;
     let end = to as usize;
-    wide(level) + totals[end] < needed + totals[start]
+    sheet::wide(level) + totals[end] < needed + totals[start]
 }
 
 // Slack energy is below the chosen job's energy: for some job that comes with a deadline below the
@@ -281,7 +267,7 @@ fn at_hand(harvest: &[u8], s: State) -> u32
     ensures { λ r. ⌜ (r ≡ atHand (now (harvest .entry)) s) × (r ≤ 65790) ⌝ }
 {
     let at = s.slot as usize;
-    wide(s.level) + wide(sheet::counted(harvest[at]))
+    sheet::wide(s.level) + sheet::wide(sheet::counted(harvest[at]))
 }
 
 // Rules 2 to 6 for the chosen job k, whose deadline is `own`.
@@ -301,7 +287,7 @@ fn rule_for(
     if charge < widened(energy) {
         return Decision::Idle(IdleWhy::Empty);
     }
-    if wide(t.capacity) < charge {
+    if sheet::wide(t.capacity) < charge {
         return Decision::Busy(k, BusyWhy::Full);
     }
     if no_slack(t, s) {
@@ -329,7 +315,7 @@ fn decide(t: Table, harvest: &[u8], totals: &[u32; 1441], s: State) -> Decision
 fn cut(capacity: u16, level: u32) -> u16
     ensures { λ r. ⌜ r ≡ min capacity level ⌝ }
 {
-    if level < wide(capacity) {
+    if level < sheet::wide(capacity) {
         level as u16
     } else {
         capacity

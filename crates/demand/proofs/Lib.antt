@@ -1,0 +1,5 @@
+pub mod Findings
+pub mod Loops
+pub mod Promised
+pub mod Shrinking
+pub mod Theorems

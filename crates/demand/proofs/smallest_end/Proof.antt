@@ -1,0 +1,78 @@
+-- The loop keeps: no end before `to`, the next deadline, gives anything.
+use Prim.Native.Nat.{_+_, _-_}
+use mathlib.Core.Path.{_≡_, refl, sym, ap, _∙_}
+use native.Mathlib.Omega.{arith}
+use Rattle.demand.specs.Steps.{findingOf}
+use Rattle.demand.proofs.Loops.{EndsSoFar, ends-at-first, ends-more, ends-found, ends-none, finding-interval, finding-nothing}
+use borrow.Author.Needs.{needs}
+use Rattle.demand.proofs.smallest_end.Statement.{statement}
+use Rattle.demand.proofs.smallest_end.Tie as tie
+
+abbrev Inv-loop : tie.InvT-loop
+Inv-loop t totals slots to₀ to = (slots ≡ t .slots) × EndsSoFar t totals to
+
+abbrev μ-loop : tie.MeasureT-loop
+μ-loop t totals slots to₀ to = slots + 1 - to
+
+next-deadline-requires : tie.Need-next-deadline-requires Inv-loop μ-loop
+next-deadline-requires c κs = let good = c .pre .1 .good in (good .few-jobs, good .few-slots, search needs)
+
+loop-holds : tie.Need-loop-holds Inv-loop μ-loop
+loop-holds c = (refl, ends-at-first _ _ _ (c .next-deadline .ensures))
+
+latest-start-requires : tie.Need-latest-start-requires Inv-loop μ-loop
+latest-start-requires c κs = (c .loop-test .taken, c .before .before .before .pre)
+
+enum-told : tie.Need-enum-told Inv-loop μ-loop
+enum-told c = search needs
+
+returns : tie.Need-returns Inv-loop μ-loop
+returns c harvest day =
+    let at-loop = c .before .before .before .before in
+    let found = c .enum-told .given .1 in
+    found
+    ∙ sym
+    (ap findingOf
+    (ends-found _ _ (at-loop .loop .to) _ harvest (at-loop .loop .inv .1) (c .before .before .before .loop-test .taken) day
+    (finding-interval _ _ _ found (c .before .before .latest-start .ensures harvest day))))
+
+enum-told-2 : tie.Need-enum-told-2 Inv-loop μ-loop
+enum-told-2 c = search needs
+
+next-deadline-requires-2 : tie.Need-next-deadline-requires-2 Inv-loop μ-loop
+next-deadline-requires-2 c κs =
+    let at-loop = c .before .before .before .before in
+    let good = at-loop .before .before .pre .1 .good in
+    (good .few-jobs, good .few-slots, c .before .before .before .loop-test .taken)
+
+loop-less : tie.Need-loop-less Inv-loop μ-loop
+loop-less c = let next = c .next-deadline2 .ensures in omega arith
+
+loop-again : tie.Need-loop-again Inv-loop μ-loop
+loop-again c =
+    let at-loop = c .before .before .before .before .before in (
+      refl,
+      ends-more _ _ (at-loop .loop .to) _ (at-loop .loop .inv .1)
+          (λ harvest day. finding-nothing _ _ (c .before .enum-told2 .given .1) (c .before .before .before .latest-start .ensures harvest day))
+          (c .next-deadline2 .ensures),
+    )
+
+returns-2 : tie.Need-returns-2 Inv-loop μ-loop
+returns-2 c harvest day = sym (ap findingOf (ends-none _ _ (c .before .loop .to) harvest (c .before .loop .inv .1) (c .loop-test .left) day))
+
+pub smallest-end-spec : {M : Type 1} → statement M
+smallest-end-spec =
+    tie.close
+    (tie.spec
+    Inv-loop
+    μ-loop
+    next-deadline-requires
+    loop-holds
+    latest-start-requires
+    enum-told
+    returns
+    enum-told-2
+    next-deadline-requires-2
+    loop-less
+    loop-again
+    returns-2)
