@@ -90,3 +90,39 @@ refusal-gives-nothing A Counts x y = refl
 refusal-gives-nothing A Layout x y = refl
 refusal-gives-nothing A (Window k) x y = refl
 refusal-gives-nothing A (Work k) x y = refl
+
+-- ---- a check, and what is given after it
+
+asCheck : {A : Type 0} → Paper A → Check
+asCheck (gives x) = gives tt
+asCheck (refuses n) = refuses n
+asCheck (refusesAt n place) = refusesAt n place
+
+as-check : {A : Type 0} (a : Check) (y : A) → asCheck (a else gives y) ≡ a
+unfolding asCheck
+as-check (gives x) y = refl
+as-check (refuses n) y = refl
+as-check (refusesAt n place) y = refl
+
+as-refusal : (A : Type 0) (r : Refusal) → asCheck (refusalSays {A = A} r) ≡ refusalSays r
+unfolding asCheck
+as-refusal A Short = refl
+as-refusal A Mark = refl
+as-refusal A Counts = refl
+as-refusal A Layout = refl
+as-refusal A (Window k) = refl
+as-refusal A (Work k) = refl
+
+-- where the whole refuses, the check did
+pub else-refused : {A : Type 0} (a : Check) (y : A) (r : Refusal) → (a else gives y) ≡ refusalSays r → a ≡ refusalSays r
+else-refused {A} a y r e = sym (as-check a y) ∙ ap asCheck e ∙ as-refusal A r
+
+-- where the whole gives something, the check gave leave
+pub else-gave : {A : Type 0} (a : Check) (y z : A) → (a else gives y) ≡ gives z → (a ≡ gives tt) × (y ≡ z)
+unfolding asCheck
+else-gave {A} a y z e =
+    let leave : a ≡ gives tt = sym (as-check a y) ∙ ap asCheck e in
+    (leave, given-same y z (sym (else-goes-on a (gives y) leave) ∙ e))
+  where
+    given-same : (x w : A) → gives x ≡ gives w → x ≡ w
+    given-same x w p = cc
