@@ -24,7 +24,6 @@ pub extern "C" fn gishronek_there_and_back(bytes: &[u8], out: &mut [u8]) -> u64
     ensures { λ r. ⌜ ThereAndBack (now (bytes .entry)) (now (out .entry)) r (now (out .exit)) ⌝ }
 {
     let reading = reader::read(bytes);
-    let table = reading.table;
-    let harvest = reader::stretch(bytes, table.count, table.slots);
-    length_or_0(writer::write(table, harvest, out))
+    let harvest = reader::stretch(bytes, reading.table.count, reading.table.slots);
+    length_or_0(writer::write(reading.table, harvest, out))
 }
