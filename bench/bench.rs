@@ -176,7 +176,7 @@ fn sheet(jobs: usize, slots: u16) -> Vec<u8> {
 // Timing
 // ------------------------------------------------------------------------------------------
 
-const ROUNDS: usize = 401;
+const ROUNDS: usize = 4000;
 
 type Call = fn(&[u8], &mut [u8]) -> u64;
 
@@ -189,9 +189,9 @@ fn timed(call: Call, calls: u32, bytes: &[u8], out: &mut [u8]) -> f64 {
     start.elapsed().as_nanos() as f64 / calls as f64
 }
 
-fn median(mut times: Vec<f64>) -> f64 {
-    times.sort_by(f64::total_cmp);
-    times[times.len() / 2]
+/// The fastest round: what else the machine does only ever adds to a time.
+fn fastest(times: Vec<f64>) -> f64 {
+    times.into_iter().fold(f64::INFINITY, f64::min)
 }
 
 /// Both give the same answer and leave the same bytes, behind the sheet too.
@@ -223,7 +223,7 @@ fn bench(what: &str, bytes: &[u8], calls: u32) {
         }
     }
     assert!(out[0] == bytes && out[1] == bytes, "the sheet did not come back");
-    let [rust, proved] = times.map(median);
+    let [rust, proved] = times.map(fastest);
     println!(
         "there and back, {what}: rust 1.00, gishronek {:.2} ({rust:.0} ns and {proved:.0} ns)",
         proved / rust
@@ -232,8 +232,8 @@ fn bench(what: &str, bytes: &[u8], calls: u32) {
 
 fn main() {
     println!(
-        "median of {ROUNDS} rounds, turn about; the buffers are not cleared between calls or rounds"
+        "fastest of {ROUNDS} rounds, turn about; the buffers are not cleared between calls or rounds"
     );
-    bench("longest sheet (64 jobs, 1440 slots, 1964 bytes)", &sheet(64, 1440), 2000);
-    bench("typical sheet (12 jobs, 96 slots, 204 bytes)", &sheet(12, 96), 10000);
+    bench("longest sheet (64 jobs, 1440 slots, 1964 bytes)", &sheet(64, 1440), 200);
+    bench("typical sheet (12 jobs, 96 slots, 204 bytes)", &sheet(12, 96), 1000);
 }

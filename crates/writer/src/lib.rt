@@ -49,7 +49,8 @@ fn put_u16(out: &mut [u8], at: usize, number: u16)
     put_pair(out, at, (number % 256) as u8, (number / 256 % 256) as u8);
 }
 
-// Puts the record of a job, 8 bytes, at a place that has room for it.
+// Puts the record of a job, 8 bytes, at a place that has room for it. The energy and the zero behind
+// it are put as one number below 256.
 fn put_record(out: &mut [u8], at: usize, j: Job)
     requires { ⌜ at + recordLength ≤ length (now out) ⌝ }
     ensures { λ _. ⌜ Laid (now (out .entry)) at (recordBytes j) (now (out .exit)) ⌝ }
@@ -57,7 +58,7 @@ fn put_record(out: &mut [u8], at: usize, j: Job)
     put_u16(out, at, j.release);
     put_u16(out, at + 2, j.deadline);
     put_u16(out, at + 4, j.wanted);
-    put_pair(out, at + 6, j.energy, 0);
+    put_u16(out, at + 6, j.energy as u16);
 }
 
 // Puts the records of a table's jobs, in order, at the front of a buffer that has room for them.
