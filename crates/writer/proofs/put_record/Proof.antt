@@ -22,9 +22,6 @@ put-u16-requires-3 c κs = search needs
 add-put-u16-3 : tie.Need-add-put-u16-3
 add-put-u16-3 c = search needs
 
-cast-put-u16 : tie.Need-cast-put-u16
-cast-put-u16 c = search needs
-
 put-u16-requires-4 : tie.Need-put-u16-requires-4
 put-u16-requires-4 c κs = search needs
 
@@ -44,7 +41,6 @@ put-record-spec =
     add-put-u16-2
     put-u16-requires-3
     add-put-u16-3
-    cast-put-u16
     put-u16-requires-4
     same-length
     returns)
