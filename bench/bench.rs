@@ -189,9 +189,20 @@ fn timed(call: Call, calls: u32, bytes: &[u8], out: &mut [u8]) -> f64 {
     start.elapsed().as_nanos() as f64 / calls as f64
 }
 
-/// The fastest round: what else the machine does only ever adds to a time.
-fn fastest(times: Vec<f64>) -> f64 {
-    times.into_iter().fold(f64::INFINITY, f64::min)
+/// The same with the stack moved on by about that many bytes: how a table on the stack lies on the
+/// cache lines and against the buffers is chance, and from round to round it is dealt anew for both.
+#[inline(never)]
+fn timed_behind<const N: usize>(call: Call, calls: u32, bytes: &[u8], out: &mut [u8]) -> f64 {
+    black_box(&mut [0u8; N]);
+    timed(call, calls, bytes, out)
+}
+
+const BEHIND: [fn(Call, u32, &[u8], &mut [u8]) -> f64; 4] =
+    [timed_behind::<16>, timed_behind::<1056>, timed_behind::<2096>, timed_behind::<3136>];
+
+fn median(mut values: Vec<f64>) -> f64 {
+    values.sort_by(f64::total_cmp);
+    values[values.len() / 2]
 }
 
 /// Both give the same answer and leave the same bytes, behind the sheet too.
@@ -219,20 +230,21 @@ fn bench(what: &str, bytes: &[u8], calls: u32) {
         // turn about, and each first in half the rounds
         for which in [round % 2, (round + 1) % 2] {
             let call: Call = [rust_there_and_back as Call, proved_there_and_back][which];
-            times[which].push(timed(call, calls, bytes, &mut out[which]));
+            times[which].push(BEHIND[round / 2 % 4](call, calls, bytes, &mut out[which]));
         }
     }
     assert!(out[0] == bytes && out[1] == bytes, "the sheet did not come back");
-    let [rust, proved] = times.map(fastest);
+    // The two of a round stand side by side in time, so that the ratio is taken round by round.
+    let ratio = median(times[0].iter().zip(&times[1]).map(|(rust, proved)| proved / rust).collect());
+    let [rust, proved] = times.map(median);
     println!(
-        "there and back, {what}: rust 1.00, gishronek {:.2} ({rust:.0} ns and {proved:.0} ns)",
-        proved / rust
+        "there and back, {what}: rust 1.00, gishronek {ratio:.2} ({rust:.0} ns and {proved:.0} ns)"
     );
 }
 
 fn main() {
     println!(
-        "fastest of {ROUNDS} rounds, turn about; the buffers are not cleared between calls or rounds"
+        "medians of {ROUNDS} rounds, turn about; the buffers are not cleared between calls or rounds"
     );
     bench("longest sheet (64 jobs, 1440 slots, 1964 bytes)", &sheet(64, 1440), 200);
     bench("typical sheet (12 jobs, 96 slots, 204 bytes)", &sheet(12, 96), 1000);
