@@ -6,7 +6,8 @@
 //! arithmetic is in i64, which nothing here can overflow.
 //!
 //! Build: rustc -O second.rs -o second (in a folder outside the repository)
-//! Use:   second day < SHEET | second cases < FILE | second make > FILE | second self-test
+//! Use:   second day < SHEET | second cases < FILE | second make [sheets | plans] > FILE |
+//!        second self-test
 
 use std::io::{Read, Write};
 
@@ -1082,22 +1083,37 @@ fn day_payload(day: &Day) -> Vec<u8> {
     table_payload(day.jobs.len() as i64, day.slots(), day.capacity, &day.jobs, &day.harvest)
 }
 
-/// The case file while it grows.
+/// The kinds of case, by group: those of the reader and the writer, and those of the planner and
+/// the step.
+const SHEETS: &[u8] = b"RW";
+const PLANS: &[u8] = b"PQS";
+const ALL_KINDS: &[u8] = b"RWPQS";
+
+/// The case file while it grows: each case's kind and payload.
 struct CaseFile {
-    bytes: Vec<u8>,
-    counts: [i64; 256],
+    cases: Vec<(u8, Vec<u8>)>,
 }
 
 impl CaseFile {
     fn add(&mut self, kind: u8, payload: &[u8]) {
-        self.bytes.push(kind);
-        self.bytes.extend(little_endian(payload.len() as i64));
-        self.bytes.extend(payload);
-        self.counts[kind as usize] += 1;
+        self.cases.push((kind, payload.to_vec()));
     }
 
     fn count(&self, kind: u8) -> i64 {
-        self.counts[kind as usize]
+        self.cases.iter().filter(|case| case.0 == kind).count() as i64
+    }
+
+    /// The file's bytes with the cases of these kinds alone, in the order in which they were made.
+    fn bytes_of(&self, kinds: &[u8]) -> Vec<u8> {
+        let mut bytes = Vec::new();
+        for (kind, payload) in &self.cases {
+            if kinds.contains(kind) {
+                bytes.push(*kind);
+                bytes.extend(little_endian(payload.len() as i64));
+                bytes.extend(payload);
+            }
+        }
+        bytes
     }
 
     fn read(&mut self, sheet: &[u8]) {
@@ -1679,7 +1695,7 @@ fn add_random(file: &mut CaseFile, dice: &mut Dice) {
 }
 
 fn make_cases() -> CaseFile {
-    let mut file = CaseFile { bytes: Vec::new(), counts: [0; 256] };
+    let mut file = CaseFile { cases: Vec::new() };
     let mut dice = Dice { state: 2026 };
     add_known_days(&mut file);
     add_refusals(&mut file);
@@ -1801,13 +1817,15 @@ fn main() {
     match words.iter().map(String::as_str).collect::<Vec<_>>()[..] {
         ["day"] => print(day_listing(&standard_input()).as_bytes()),
         ["cases"] => print(case_lines(&standard_input()).as_bytes()),
-        ["make"] => print(&make_cases().bytes),
+        ["make"] => print(&make_cases().bytes_of(ALL_KINDS)),
+        ["make", "sheets"] => print(&make_cases().bytes_of(SHEETS)),
+        ["make", "plans"] => print(&make_cases().bytes_of(PLANS)),
         ["self-test"] => {
             self_test();
             print(b"ok\n");
         }
         _ => {
-            eprintln!("use: second day | cases | make | self-test");
+            eprintln!("use: second day | cases | make [sheets | plans] | self-test");
             std::process::exit(2);
         }
     }

@@ -1,5 +1,5 @@
 -- The parts of a day sheet, laid one behind the other.
-use Prim.Native.Nat.{ℕ, _+_, _-_, _*_}
+use Prim.Native.Nat.{ℕ, _+_, _-_, _*_, _/_, _%_, _<_}
 use mathlib.Core.Path.{_≡_}
 use mathlib.Core.List.{List, [], _∷_}
 use native.Mathlib.Omega.{arith}
@@ -12,15 +12,23 @@ use Rattle.writer.specs.Laid.{Laid}
 use Rattle.writer.proofs.Laying.{laid-next, laid-record}
 use Rattle.sheet.proofs.Parts.{recordsOf, record-length, records-length}
 
+-- a number below 256 as a u16 is itself and a zero
+small-u16 : (n : ℕ) → n < 256 → u16 n ≡ n ∷ 0 ∷ []
+small-u16 n h =
+    let low : n % 256 ≡ n = omega arith in
+    let high : n / 256 % 256 ≡ 0 = omega arith in
+    rw (low, high)
+
 pub record-laid : {l a b c n : List ℕ} (at : ℕ) (j : Job)
     → Laid l at (u16 (j .release)) a
     → Laid a (at + 2) (u16 (j .deadline)) b
     → Laid b (at + 4) (u16 (j .wanted)) c
-    → Laid c (at + 6) (j .energy ∷ 0 ∷ []) n
+    → Laid c (at + 6) (u16 (j .energy)) n
+    → j .energy < 256
     → Laid l at (recordBytes j) n
 unfolding recordBytes
-record-laid at j release deadline wanted last =
-    laid-next (laid-next (laid-next release deadline (omega arith)) wanted (omega arith)) last (omega arith)
+record-laid at j release deadline wanted energy small =
+    laid-next (laid-next (laid-next release deadline (omega arith)) wanted (omega arith)) (rw (small-u16 (j .energy) small) at energy) (omega arith)
 
 pub trailer-laid : {l a b c d e n : List ℕ} (at : ℕ) (t : Table)
     → Laid l at (u16 (t .slots)) a

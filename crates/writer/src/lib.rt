@@ -1,5 +1,4 @@
 // The sheet writer: a table and a harvest, as the bytes of a day sheet at the front of a lent buffer.
-use sheet::Job;
 use sheet::Outcome;
 use sheet::Refusal;
 use sheet::Table;
@@ -49,15 +48,17 @@ fn put_u16(out: &mut [u8], at: usize, number: u16)
     put_pair(out, at, (number % 256) as u8, (number / 256 % 256) as u8);
 }
 
-// Puts the record of a job, 8 bytes, at a place that has room for it.
-fn put_record(out: &mut [u8], at: usize, j: Job)
+// Puts the record of a job, 8 bytes, at a place that has room for it. The energy and the zero behind
+// it are one number below 256. It takes the job's numbers one by one, since a whole job would first
+// be copied out of its table.
+fn put_record(out: &mut [u8], at: usize, release: u16, deadline: u16, wanted: u16, energy: u8)
     requires { ⌜ at + recordLength ≤ length (now out) ⌝ }
-    ensures { λ _. ⌜ Laid (now (out .entry)) at (recordBytes j) (now (out .exit)) ⌝ }
+    ensures { λ _. ⌜ Laid (now (out .entry)) at (recordBytes (record { release = release; deadline = deadline; wanted = wanted; energy = energy })) (now (out .exit)) ⌝ }
 {
-    put_u16(out, at, j.release);
-    put_u16(out, at + 2, j.deadline);
-    put_u16(out, at + 4, j.wanted);
-    put_pair(out, at + 6, j.energy, 0);
+    put_u16(out, at, release);
+    put_u16(out, at + 2, deadline);
+    put_u16(out, at + 4, wanted);
+    put_u16(out, at + 6, energy as u16);
 }
 
 // Puts the records of a table's jobs, in order, at the front of a buffer that has room for them.
@@ -68,7 +69,14 @@ fn put_records(out: &mut [u8], t: Table)
     let count = t.count;
     let mut k = 0;
     while k < count {
-        put_record(out, RECORD_LENGTH * k, t.jobs[k]);
+        put_record(
+            out,
+            RECORD_LENGTH * k,
+            t.jobs[k].release,
+            t.jobs[k].deadline,
+            t.jobs[k].wanted,
+            t.jobs[k].energy,
+        );
         k += 1;
     }
 }

@@ -1,35 +1,43 @@
--- Each return follows what the two faults answered.
-use mathlib.Core.Path.{sym, _∙_}
+-- Each return follows what the two faults answered, 5 before 6.
+use Prim.Native.Nat.{ℕ}
+use mathlib.Core.Path.{_≡_, sym, _∙_}
+use mathlib.Core.Bool.{Bool, true, false}
 use borrow.Author.Needs.{needs}
-use Rattle.sheet.specs.Table.{recordSays}
+use Rattle.sheet.specs.Paper.{gives, refusesAt}
+use Rattle.sheet.specs.Table.{windowFault, workFault, recordSays}
+use Rattle.sheet.specs.declared.Job.{Job}
 use Rattle.sheet.proofs.check_record.Statement.{statement}
 use Rattle.sheet.proofs.check_record.Tie as tie
+
+module _ (slots : ℕ) (j : Job) (last k : ℕ) where
+  five : {window : Bool} → window ≡ windowFault slots j → window ≡ true → refusesAt 5 k ≡ recordSays slots j last k
+  unfolding recordSays
+  five asked is = rw (sym asked ∙ is)
+
+  six : {window work : Bool} → window ≡ windowFault slots j → window ≡ false → work ≡ workFault j last → work ≡ true → refusesAt 6 k ≡ recordSays slots j last k
+  unfolding recordSays
+  six asked is asked₂ is₂ = rw (sym asked ∙ is, sym asked₂ ∙ is₂)
+
+  fine : {window work : Bool} → window ≡ windowFault slots j → window ≡ false → work ≡ workFault j last → work ≡ false → gives tt ≡ recordSays slots j last k
+  unfolding recordSays
+  fine asked is asked₂ is₂ = rw (sym asked ∙ is, sym asked₂ ∙ is₂)
+
+ruleset faults = (five, six, fine)
 
 window-fault-requires : tie.Need-window-fault-requires
 window-fault-requires c κs = search needs
 
 returns : tie.Need-returns
-unfolding recordSays
-returns c = rw (sym (c .before .window-fault .ensures) ∙ c .if1 .taken)
+returns c = search faults
 
 work-fault-requires : tie.Need-work-fault-requires
 work-fault-requires c κs = search needs
 
 returns-2 : tie.Need-returns-2
-unfolding recordSays
-returns-2 c =
-    rw (
-      sym (c .before .before .before .window-fault .ensures) ∙ c .before .before .if1 .left,
-      sym (c .before .work-fault .ensures) ∙ c .if2 .taken,
-    )
+returns-2 c = search faults
 
 returns-3 : tie.Need-returns-3
-unfolding recordSays
-returns-3 c =
-    rw (
-      sym (c .before .before .before .window-fault .ensures) ∙ c .before .before .if1 .left,
-      sym (c .before .work-fault .ensures) ∙ c .if2 .left,
-    )
+returns-3 c = search faults
 
 pub check-record-spec : {M : Type 1} → statement M
 check-record-spec =

@@ -19,17 +19,17 @@ add-put-u16-2 c = search needs
 put-u16-requires-3 : tie.Need-put-u16-requires-3
 put-u16-requires-3 c κs = search needs
 
-add-put-pair : tie.Need-add-put-pair
-add-put-pair c = search needs
+add-put-u16-3 : tie.Need-add-put-u16-3
+add-put-u16-3 c = search needs
 
-put-pair-requires : tie.Need-put-pair-requires
-put-pair-requires c κs = search needs
+put-u16-requires-4 : tie.Need-put-u16-requires-4
+put-u16-requires-4 c κs = search needs
 
 same-length : tie.Need-same-length
 same-length c = search needs
 
 returns : tie.Need-returns
-returns c = search record-laid
+returns c = search (record-laid, needs)
 
 pub put-record-spec : {M : Type 1} → statement M
 put-record-spec =
@@ -40,7 +40,7 @@ put-record-spec =
     put-u16-requires-2
     add-put-u16-2
     put-u16-requires-3
-    add-put-pair
-    put-pair-requires
+    add-put-u16-3
+    put-u16-requires-4
     same-length
     returns)

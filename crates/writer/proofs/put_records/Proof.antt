@@ -32,6 +32,24 @@ mul-put-record-2 c = search needs
 element-copy-out-put-record : tie.Need-element-copy-out-put-record Inv-loop μ-loop
 element-copy-out-put-record c = search needs
 
+mul-put-record-3 : tie.Need-mul-put-record-3 Inv-loop μ-loop
+mul-put-record-3 c = search needs
+
+element-copy-out-put-record-2 : tie.Need-element-copy-out-put-record-2 Inv-loop μ-loop
+element-copy-out-put-record-2 c = search needs
+
+mul-put-record-4 : tie.Need-mul-put-record-4 Inv-loop μ-loop
+mul-put-record-4 c = search needs
+
+element-copy-out-put-record-3 : tie.Need-element-copy-out-put-record-3 Inv-loop μ-loop
+element-copy-out-put-record-3 c = search needs
+
+mul-put-record-5 : tie.Need-mul-put-record-5 Inv-loop μ-loop
+mul-put-record-5 c = search needs
+
+element-copy-out-put-record-4 : tie.Need-element-copy-out-put-record-4 Inv-loop μ-loop
+element-copy-out-put-record-4 c = search needs
+
 put-record-requires : tie.Need-put-record-requires Inv-loop μ-loop
 put-record-requires c κs = search needs
 
@@ -42,13 +60,7 @@ loop-less : tie.Need-loop-less Inv-loop μ-loop
 loop-less c = search needs
 
 loop-again : tie.Need-loop-again Inv-loop μ-loop
-loop-again c =
-    let at-loop = c .before .before .before .before .before .before in (
-      refl,
-      search needs,
-      search needs,
-      records-laid (at-loop .before .before .args .t2) (at-loop .loop .k) (at-loop .loop .inv .3) (c .before .before .put-record .ensures),
-    )
+loop-again c = (refl, search needs, search needs, search records-laid)
 
 same-length : tie.Need-same-length Inv-loop μ-loop
 same-length c = search needs
@@ -69,6 +81,12 @@ put-records-spec =
     mul-put-record
     mul-put-record-2
     element-copy-out-put-record
+    mul-put-record-3
+    element-copy-out-put-record-2
+    mul-put-record-4
+    element-copy-out-put-record-3
+    mul-put-record-5
+    element-copy-out-put-record-4
     put-record-requires
     add-k
     loop-less
