@@ -1,1 +1,3 @@
+pub mod Days
 pub mod Promised
+pub mod Theorems

@@ -8,14 +8,14 @@ use native.Mathlib.Decide.{decLt}
 use native.Mathlib.Omega.{arith}
 use lib.Dec.{eqb}
 use borrow.Author.Tests.{eq-eqb, ne-eqb}
-use Rattle.sheet.specs.Paper.{Check, gives, refuses, refusesAt, _else_, givenAt, inOrder}
+use Rattle.sheet.specs.Paper.{Check, gives, refuses, refusesAt, _given-when_, _else_, givenAt, inOrder}
 use Rattle.sheet.specs.Refusals.{Faults, inTurn, refusalSays, outcomeSays}
 use Rattle.sheet.specs.WellFormed.{turnOf, GivenFirst}
 use Rattle.sheet.specs.declared.Refusal.{Refusal}
 use Rattle.sheet.specs.declared.Refusal.the-variants.{Short, Mark, Counts, Layout, Window, Work}
 use Rattle.sheet.specs.declared.Outcome.{Outcome}
 use Rattle.sheet.specs.declared.Outcome.the-variants.{Accepted, Refused}
-use Rattle.sheet.proofs.Order.{says-refuses}
+use Rattle.sheet.proofs.Order.{says-refuses, else-goes-on, refusal-stays}
 
 pub either : (b : Bool) → (b ≡ true) ⊎ (b ≡ false)
 either true = inl refl
@@ -329,3 +329,35 @@ accepted-exactly f = (
       (λ c. absurd (clear-none f clear (c .0) (c .2 .0)))
       (decided f)),
 )
+
+-- leave to go on, or one of the refusals
+pub leave-or-refusal : (f : Faults) → (inTurn f ≡ gives tt) ⊎ ((r : Refusal) × (inTurn f ≡ refusalSays r))
+leave-or-refusal f = ⊎-elim (λ c. inl (c .0)) (λ c. inr (c .0, c .1)) (decided f)
+
+-- a refusal of a sheet or a table is none of a call's own, which have numbers above 6
+pub refusal-number : {A : Type 0} (r : Refusal) (n : ℕ) → 6 < n → refusalSays {A = A} r ≡ refuses n → ⊥
+refusal-number {A} r n h e = go r e
+  where
+    go : (q : Refusal) → refusalSays {A = A} q ≡ refuses n → ⊥
+    go Short p = let k : 1 ≡ n = cc in omega arith
+    go Mark p = let k : 2 ≡ n = cc in omega arith
+    go Counts p = let k : 3 ≡ n = cc in omega arith
+    go Layout p = let k : 4 ≡ n = cc in omega arith
+    go (Window k) p = let z : _≡_ {A = ℕ} 0 1 = cc in omega arith
+    go (Work k) p = let z : _≡_ {A = ℕ} 0 1 = cc in omega arith
+
+-- a call's own refusal, asked after a check: given exactly when its test holds and the check refused nothing
+pub own-refusal-exactly : {A : Type 0} (f : Faults) (n : ℕ) (b : Bool) (x : A) → 6 < n
+    → ((inTurn f else n given-when b else gives x) ≡ refuses n) ↔ ((inTurn f ≡ gives tt) × (b ≡ true))
+own-refusal-exactly {A} f n b x h = (
+  (λ e.
+      ⊎-elim
+      (λ leave. (leave, given b (sym (else-goes-on (inTurn f) (n given-when b else gives x) leave) ∙ e)))
+      (λ r. absurd (refusal-number (r .0) n h (sym (refusal-stays (r .0) (n given-when b else gives x)) ∙ ap (λ (a : Check). a else n given-when b else gives x) (sym (r .1)) ∙ e)))
+      (leave-or-refusal f)),
+  (λ g. else-goes-on (inTurn f) (n given-when b else gives x) (g .0) ∙ ap (λ (c : Bool). n given-when c else gives x) (g .1)),
+)
+  where
+    given : (c : Bool) → (n given-when c else gives x) ≡ refuses n → c ≡ true
+    given true p = refl
+    given false p = let z : _≡_ {A = ℕ} 0 1 = cc in absurd (omega arith)

@@ -1,9 +1,17 @@
 -- What the promise settles: for any table, harvest and buffer it leaves one answer and one buffer.
-use Prim.Native.Nat.{ℕ}
+use Prim.Native.Nat.{ℕ, _<_}
 use mathlib.Core.Path.{_≡_, refl, sym, ap, _∙_}
 use mathlib.Core.List.{List}
 use mathlib.Core.Bool.{Bool, true, false}
-use lib.Dec.{eqb}
+use mathlib.Core.Logic.{_↔_, Iff·trans, Iff·and}
+use lib.Dec.{eqb, ltb, lit<}
+use lib.ListN.{length}
+use borrow.Author.Tests.{ltb-true, lt-ltb}
+use Rattle.sheet.specs.Sheet.{sheetLength, writeSays}
+use Rattle.sheet.specs.Table.{tableFaults}
+use Rattle.sheet.specs.WellFormed.{GoodTable}
+use Rattle.sheet.proofs.Exactly.{own-refusal-exactly}
+use Rattle.sheet.proofs.Theorems.{table-accepted-exactly}
 use Rattle.sheet.specs.Paper.{Paper, gives, refuses, refusesAt}
 use Rattle.sheet.specs.declared.Refusal.the-variants.{Short, Mark, Counts, Layout, Window, Work}
 use Rattle.sheet.specs.declared.Table.{Table}
@@ -46,3 +54,12 @@ pub one-result : {t : Table} {harvest out after after' : List ℕ} {r r' : Writt
     → Writes t harvest out r' after'
     → (r ≡ r') × (after ≡ after')
 one-result {r = r} {r' = r'} w w' = (says-one-answer r r' (w .answer ∙ sym (w' .answer)), w .buffer ∙ sym (w' .buffer))
+
+-- 8 is given exactly when the table and the harvest are well formed and the buffer is shorter than the sheet
+pub no-room-exactly : (t : Table) (harvest out : List ℕ)
+    → (writeSays t harvest out ≡ refuses 8) ↔ (GoodTable t harvest × (length out < sheetLength (t .count) (t .slots)))
+unfolding writeSays
+no-room-exactly t harvest out =
+    Iff·trans
+    (own-refusal-exactly (tableFaults t harvest) 8 (ltb (length out) (sheetLength (t .count) (t .slots))) (sheetLength (t .count) (t .slots)) (lit< tt))
+    (Iff·and (table-accepted-exactly t harvest) (ltb-true _ _, lt-ltb _ _))
