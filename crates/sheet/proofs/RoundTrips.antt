@@ -5,19 +5,25 @@ use mathlib.Core.List.{List, [], _∷_, _++_, append-assoc}
 use native.Mathlib.Nat.{add-zero, add-assoc, not-suc-le-zero, mul-zero}
 use native.Mathlib.Decide.{decLt}
 use native.Mathlib.Omega.{arith}
+use mathlib.Core.Logic.{⊎-elim}
+use mathlib.Core.Bool.{false}
+use lib.Dec.{ltb}
+use borrow.Author.Tests.{le-ltb}
 use lib.ListN.{length, getD, take, drop, length-append, length-drop, take-append-drop, List·getD-append}
 use lib.Seq.{length-take-le, take-at, drop-at, take-add, take-all, drop-drop, getD-append-add}
-use Rattle.sheet.specs.Paper.{gives}
+use Rattle.sheet.specs.Paper.{Paper, Check, gives, refuses, refusesAt, _else_, whereGiven}
 use Rattle.sheet.specs.Lists.{joined}
-use Rattle.sheet.specs.Table.{mostSlots, jobOf}
-use Rattle.sheet.specs.Sheet.{u16, u16At, recordBytes, recordLength, trailerBytes, trailerLength, trailerAt, sheetBytes, sheetLength, markFirst, markSecond, harvestBack, firstJobBack, jobsIn, slotsIn, capacityIn, jobIn, lastByteIn, tableIn, harvestIn, sheetSays, tableRead, harvestRead}
+use Rattle.sheet.specs.Table.{mostSlots, jobOf, tableSays}
+use Rattle.sheet.specs.Sheet.{u16, u16At, recordBytes, recordLength, trailerBytes, trailerLength, trailerAt, sheetBytes, sheetLength, markFirst, markSecond, harvestBack, firstJobBack, jobsIn, slotsIn, capacityIn, jobIn, lastByteIn, tableIn, harvestIn, sheetSays, tableRead, harvestRead, writeSays, bufferWritten}
 use Rattle.sheet.specs.WellFormed.{GoodJob, GoodTable, WellFormed, SameTable, Bytes}
 use Rattle.sheet.specs.declared.Job.{Job}
 use Rattle.sheet.specs.declared.Table.{Table}
 use Rattle.sheet.proofs.Lists.{joined-same, stretch-joined}
 use Rattle.sheet.proofs.Parts.{recordsOf, records-length, trailer-length, sheet-length}
 use Rattle.sheet.proofs.Reading.{table-given, harvest-given}
-use Rattle.sheet.proofs.Theorems.{job-in-table, harvest-length, sheet-accepted-exactly}
+use Rattle.sheet.proofs.Theorems.{job-in-table, sheet-accepted-exactly, table-accepted-exactly}
+use Rattle.sheet.proofs.Exactly.{either}
+use Rattle.sheet.proofs.Order.{else-gave}
 
 -- ---- numbers there and back
 
@@ -282,3 +288,49 @@ module _ (s : List ℕ) (bytes : Bytes s) (good : WellFormed s) where
       ∙ append-assoc (take (recordLength * n) s) (harvestIn s) (drop (slotsIn s) rest)
       ∙ ap (λ (l : List ℕ). take (recordLength * n) s ++ l) (take-append-drop (slotsIn s) rest)
       ∙ take-append-drop (recordLength * n) s
+
+  -- and the writer does it: given room, its answer is the sheet's length, and the sheet stands at the front of the buffer with the bytes behind it as they were
+  pub read-writes-buffer : (out : List ℕ) → length s ≤ length out
+      → (writeSays (tableRead s) (harvestRead s) out ≡ gives (length s)) × (bufferWritten (tableRead s) (harvestRead s) out ≡ s ++ drop (length s) out)
+  unfolding writeSays bufferWritten tableIn
+  read-writes-buffer out room =
+      let said : sheetSays s ≡ gives tt = sheet-accepted-exactly s .1 good in
+      let t : tableRead s ≡ tableIn s = table-given s said in
+      let h : harvestRead s ≡ harvestIn s = harvest-given s said in
+      let fine : tableSays (tableRead s) (harvestRead s) ≡ gives tt = ap₂ tableSays t h ∙ table-accepted-exactly (tableIn s) (harvestIn s) .1 (good .good-table) in
+      let long : sheetLength (tableRead s .count) (tableRead s .slots) ≡ length s = ap (λ (u : Table). sheetLength (u .count) (u .slots)) t ∙ sym (good .length-fits) in
+      let fits : ltb (length out) (sheetLength (tableRead s .count) (tableRead s .slots)) ≡ false = le-ltb (length out) (sheetLength (tableRead s .count) (tableRead s .slots)) (rw long room) in
+      let says : writeSays (tableRead s) (harvestRead s) out ≡ gives (length s) = rw (fine, fits) (ap gives long) in
+      (says, rw says (ap₂ _++_ read-writes-back (ap (λ (n : ℕ). drop n out) long)))
+
+write-gave : (t : Table) (harvest out : List ℕ) (n : ℕ) → writeSays t harvest out ≡ gives n
+    → (tableSays t harvest ≡ gives tt) × (sheetLength (t .count) (t .slots) ≡ n)
+unfolding writeSays
+write-gave t harvest out n e =
+    ⊎-elim
+    (λ b.
+    let says : writeSays t harvest out ≡ (tableSays t harvest else refuses 8) = rw b in
+    absurd (never-gives (tableSays t harvest) (sym says ∙ e)))
+    (λ b.
+    let says : writeSays t harvest out ≡ (tableSays t harvest else gives (sheetLength (t .count) (t .slots))) = rw b in
+    else-gave (tableSays t harvest) (sheetLength (t .count) (t .slots)) n (sym says ∙ e))
+    (either (ltb (length out) (sheetLength (t .count) (t .slots))))
+  where
+    never-gives : (a : Check) → _≡_ {A = Paper ℕ} (a else refuses 8) (gives n) → ⊥
+    never-gives (gives x) p = let z : _≡_ {A = ℕ} 0 1 = cc in omega arith
+    never-gives (refuses m) p = let z : _≡_ {A = ℕ} 0 1 = cc in omega arith
+    never-gives (refusesAt m k) p = let z : _≡_ {A = ℕ} 0 1 = cc in omega arith
+
+-- what the writer wrote, read again: the bytes at the front of the buffer are accepted and give that table and harvest
+pub buffer-reads-back : (t : Table) (harvest out : List ℕ) (n : ℕ) → t .capacity < 65536 → writeSays t harvest out ≡ gives n
+    → (sheetSays (take n (bufferWritten t harvest out)) ≡ gives tt)
+    × SameTable (tableRead (take n (bufferWritten t harvest out))) t
+    × (harvestRead (take n (bufferWritten t harvest out)) ≡ harvest)
+unfolding writeSays bufferWritten
+buffer-reads-back t harvest out n fits e =
+    let gave = write-gave t harvest out n e in
+    let good : GoodTable t harvest = table-accepted-exactly t harvest .0 (gave .0) in
+    let front : take n (bufferWritten t harvest out) ≡ sheetBytes t harvest =
+    ap (take n) (ap (λ (a : Paper ℕ). whereGiven a (sheetBytes t harvest ++ drop (sheetLength (t .count) (t .slots)) out) out) e)
+    ∙ take-at (sheetBytes t harvest) (drop (sheetLength (t .count) (t .slots)) out) n (sheet-length t harvest (good .harvest-fits) ∙ gave .1) in
+    rw front (written-reads-back t harvest good fits)

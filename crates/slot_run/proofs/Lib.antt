@@ -1,4 +1,5 @@
 pub mod Choosing
+pub mod Deciding
 pub mod Promised
 pub mod RuleLaws
 pub mod Running

@@ -1,27 +1,9 @@
 -- Each return follows the tests that led to it, which are the rules' own.
-use Prim.Native.Nat.{ℕ, _≤_, _<_}
-use mathlib.Core.Path.{_≡_, sym, ap, _∙_}
-use native.Mathlib.Omega.{arith}
-use mathlib.Core.Bool.{Bool, true, false}
-use lib.Dec.{ltb}
-use Rattle.sheet.specs.Table.{jobOf}
-use Rattle.slot_run.specs.Choosing.{deadlineOf}
-use Rattle.slot_run.specs.Slack.{isBelow, slackEnergy}
-use Rattle.slot_run.proofs.RuleLaws.{bounded, rule-2, rule-3, rule-4, rule-5, rule-6}
-use Rattle.slot_run.proofs.SlackTests.{by-totals}
+use Rattle.slot_run.proofs.Deciding.{by-rule-2, by-rule-3, by-rule-4, by-rule-5, by-rule-6}
+use Rattle.slot_run.proofs.RuleLaws.{bounded}
 use borrow.Author.Needs.{needs}
 use Rattle.slot_run.proofs.rule_for.Statement.{statement}
 use Rattle.slot_run.proofs.rule_for.Tie as tie
-
--- what `needs_charge` answered is what rule 5 asks
-saving : (c : tie.After-needs-charge)
-    → let start = c .before .before .before .before .before .before .before .before .before in
-    c .needs-charge .result ≡ isBelow (slackEnergy (start .args .t1) (start .args .harvest .now) (start .args .s) (deadlineOf (start .args .t1) (start .args .k))) (jobOf (start .args .t1) (start .args .k) .energy)
-saving c =
-    let start = c .before .before .before .before .before .before .before .before .before in
-    c .needs-charge .ensures
-    ∙ by-totals (start .args .t1) (start .args .harvest .now) (start .args .totals .now) (start .args .s) (start .args .own) (jobOf (start .args .t1) (start .args .k) .energy) (start .pre .0)
-    ∙ ap (λ (own : ℕ). isBelow (slackEnergy (start .args .t1) (start .args .harvest .now) (start .args .s) own) (jobOf (start .args .t1) (start .args .k) .energy)) (start .pre .2)
 
 mul-energy : tie.Need-mul-energy
 mul-energy c = search needs
@@ -36,32 +18,28 @@ widened-requires : tie.Need-widened-requires
 widened-requires c κs = search needs
 
 returns : tie.Need-returns
-returns c = sym (rule-2 _ _ _ _ (omega arith))
+returns c = search by-rule-2
 
 wide-requires : tie.Need-wide-requires
 wide-requires c κs = search needs
 
 returns-2 : tie.Need-returns-2
-returns-2 c = sym (rule-3 _ _ _ _ (omega arith) (omega arith))
+returns-2 c = search by-rule-3
 
 no-slack-requires : tie.Need-no-slack-requires
 no-slack-requires c κs = search needs
 
 returns-3 : tie.Need-returns-3
-returns-3 c = sym (rule-4 _ _ _ _ (omega arith) (omega arith) (sym (c .before .no-slack .ensures) ∙ c .if3 .taken))
+returns-3 c = search by-rule-4
 
 needs-charge-requires : tie.Need-needs-charge-requires
-needs-charge-requires c κs = bounded _ _ _ _ (c .before .before .before .before .before .before .before .before .pre .0)
+needs-charge-requires c κs = search bounded
 
 returns-4 : tie.Need-returns-4
-returns-4 c =
-    let slack = c .before .before .before in
-    sym (rule-5 _ _ _ _ (omega arith) (omega arith) (sym (slack .no-slack .ensures) ∙ c .before .before .if3 .left) (sym (saving (c .before)) ∙ c .if4 .taken))
+returns-4 c = search by-rule-5
 
 returns-5 : tie.Need-returns-5
-returns-5 c =
-    let slack = c .before .before .before in
-    sym (rule-6 _ _ _ _ (omega arith) (omega arith) (sym (slack .no-slack .ensures) ∙ c .before .before .if3 .left) (sym (saving (c .before)) ∙ c .if4 .left))
+returns-5 c = search by-rule-6
 
 pub rule-for-spec : {M : Type 1} → statement M
 rule-for-spec =
