@@ -174,3 +174,12 @@ small-more l i v most small h long k =
       | yes e ↦ subst (λ (j : ℕ). getD (set l i v) j 0 ≤ most) (sym e) (rw (getD-set-same l i v 0 long) h)
       | no e ↦ rw (getD-set-other l i k v 0 e) (small k)
     ]
+
+-- places that hold zeros, and the next one stored
+pub zeros-first : (n k : ℕ) → _≡_ {A = ℕ} (getD (replicate n 0) k 0) 0
+zeros-first zero k = refl
+zeros-first (suc n) zero = refl
+zeros-first (suc n) (suc k) = zeros-first n k
+
+pub zeros-more : (l : List ℕ) (i v : ℕ) → ((k : ℕ) → i < k → getD l k 0 ≡ 0) → (k : ℕ) → i + 1 < k → getD (set l (i + 1) v) k 0 ≡ 0
+zeros-more l i v zeros k h = getD-set-other l (i + 1) k v 0 (λ e. omega arith) ∙ zeros k (omega arith)

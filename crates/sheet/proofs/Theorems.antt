@@ -1,6 +1,6 @@
 -- The theorems on sheets and tables that are worth quoting. Each speaks of definitions of `specs/` alone; the contracts say that the code
 -- computes those.
-use Prim.Native.Nat.{ℕ, _+_, _-_, _*_, _<_, _≤_}
+use Prim.Native.Nat.{ℕ, min, _+_, _-_, _*_, _<_, _≤_}
 use mathlib.Core.Path.{_≡_, refl, sym, ap, _∙_, subst}
 use mathlib.Core.Bool.{Bool, true, false, not, _||_}
 use mathlib.Core.List.{List}
@@ -8,9 +8,11 @@ use mathlib.Core.Logic.{_↔_, _⊎_, inl, inr, ⊎-elim, Iff·trans, Iff·symm}
 use native.Mathlib.Omega.{arith}
 use lib.Dec.{ltb, eqb}
 use lib.ListN.{length, take, drop, length-drop}
-use lib.Seq.{length-take-le}
+use lib.Seq.{length-take-le, ext-getD}
+use native.Mathlib.Decide.{decLe}
 use borrow.Author.Tests.{lt-ltb, le-ltb, eq-eqb, ne-eqb, ltb-true, ltb-false, eqb-true, eqb-false, not-true, not-false}
 use Rattle.sheet.specs.Paper.{Check, gives}
+use Rattle.sheet.specs.Sums.{TotalsOf, ZerosBeyond}
 use Rattle.sheet.specs.Refusals.{Faults, inTurn, refusalSays}
 use Rattle.sheet.specs.Table.{mostJobs, mostSlots, noJob, jobOf, countsFault, windowFault, workFault, tableFaults, tableSays}
 use Rattle.sheet.specs.Sheet.{trailerLength, recordLength, sheetLength, markFirst, markSecond, jobsIn, slotsIn, jobIn, lastByteIn, sheetFaults, sheetSays, tableIn, harvestIn, markFault, layoutFault}
@@ -197,3 +199,14 @@ sheet-accepted-exactly s = (
             )),
       )),
 )
+
+-- ---- any two results that a promise allows are equal (for an outcome: `outcome-one`, in `Exactly.antt`)
+
+pub one-totals : (harvest a b : List ℕ) → length a ≡ length b → TotalsOf harvest a × ZerosBeyond harvest a → TotalsOf harvest b × ZerosBeyond harvest b → a ≡ b
+one-totals harvest a b long p q =
+    ext-getD 0 a b long
+    (λ k h.
+    elim (decLe k (min (length harvest) mostSlots)) [
+      | yes l ↦ p .0 k (omega arith) (omega arith) ∙ sym (q .0 k (omega arith) (omega arith))
+      | no l ↦ p .1 k (omega arith) ∙ sym (q .1 k (omega arith))
+    ])

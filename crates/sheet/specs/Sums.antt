@@ -1,5 +1,5 @@
 -- Sums over jobs and over slots.
-use Prim.Native.Nat.{ℕ, zero, suc, _+_, _-_, _*_, _≤_}
+use Prim.Native.Nat.{ℕ, zero, suc, min, _+_, _-_, _*_, _≤_, _<_}
 use mathlib.Core.Path.{_≡_}
 use mathlib.Core.List.{List}
 use mathlib.Core.Bool.{Bool, false, cond, _||_}
@@ -37,3 +37,7 @@ mostHarvest = 255 * mostSlots
 
 abbrev pub SmallTotals : List ℕ → Type 0
 SmallTotals totals = (k : ℕ) → getD totals k 0 ≤ mostHarvest
+
+-- zeros behind the last total
+abbrev pub ZerosBeyond : List ℕ → List ℕ → Type 0
+ZerosBeyond harvest totals = (k : ℕ) → min (length harvest) mostSlots < k → getD totals k 0 ≡ 0

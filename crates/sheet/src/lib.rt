@@ -2,7 +2,7 @@
 // of a table and a harvest that are handed to it in place of a sheet.
 ghost use mathlib.Core.Path.{_≡_};
 ghost use Prim.Native.Nat.{min, _*_, _≤_};
-ghost use Rattle.sheet.specs.Sums.{TotalsOf, SmallTotals};
+ghost use Rattle.sheet.specs.Sums.{TotalsOf, SmallTotals, ZerosBeyond};
 ghost use Rattle.sheet.specs.Refusals.{outcomeSays, refusalNumber};
 ghost use Rattle.sheet.specs.Table.{mostJobs, mostSlots, countedAs, countsFault, windowFault, workFault, recordSays, recordsSay, tableSays};
 
@@ -186,7 +186,7 @@ fn day_at_most(slots: usize) -> usize
 // Running totals of a harvest: entry k is what the first k slots harvest, for every k up to the
 // harvest's length and 1,440; zeros beyond.
 pub fn totals(harvest: &[u8]) -> [u32; 1441]
-    ensures { λ r. ⌜ TotalsOf (now (harvest .entry)) r × SmallTotals r ⌝ }
+    ensures { λ r. ⌜ TotalsOf (now (harvest .entry)) r × SmallTotals r × ZerosBeyond (now (harvest .entry)) r ⌝ }
 {
     let mut sums = [0u32; 1441];
     let mut sum: u32 = 0;

@@ -7,13 +7,13 @@ use lib.ListN.{length, getD, replicate, length-set}
 use lib.Seq.{getD-set-same, getD-set-other}
 use Rattle.sheet.specs.Table.{mostSlots}
 use Rattle.sheet.specs.Sums.{total, harvestAt, mostHarvest, SmallTotals}
-use Rattle.sheet.proofs.Sums.{total-none, total-more, entries-first, entries-more, small-none, small-more}
+use Rattle.sheet.proofs.Sums.{total-none, total-more, entries-first, entries-more, small-none, small-more, zeros-first, zeros-more}
 use borrow.Author.Needs.{needs}
 use Rattle.sheet.proofs.totals.Statement.{statement}
 use Rattle.sheet.proofs.totals.Tie as tie
 
 abbrev Inv-loop : tie.InvT-loop
-Inv-loop harvest sums₀ sum₀ slots k₀ sums sum k = (k ≤ slots) × (slots ≡ min (length harvest) mostSlots) × (sum ≡ total (harvestAt harvest) k) × (sum ≤ 255 * k) × (length sums ≡ 1441) × ((j : ℕ) → j ≤ k → getD sums j 0 ≡ total (harvestAt harvest) j) × SmallTotals sums
+Inv-loop harvest sums₀ sum₀ slots k₀ sums sum k = (k ≤ slots) × (slots ≡ min (length harvest) mostSlots) × (sum ≡ total (harvestAt harvest) k) × (sum ≤ 255 * k) × (length sums ≡ 1441) × ((j : ℕ) → j ≤ k → getD sums j 0 ≡ total (harvestAt harvest) j) × SmallTotals sums × ((j : ℕ) → k < j → getD sums j 0 ≡ 0)
 
 abbrev μ-loop : tie.MeasureT-loop
 μ-loop harvest sums₀ sum₀ slots k₀ sums sum k = slots - k
@@ -31,6 +31,7 @@ loop-holds c =
       refl,
       entries-first (total (harvestAt (c .before .before .args .harvest .now))) 0 (replicate mostSlots 0) (sym none),
       small-none 1441 mostHarvest,
+      (λ j h. zeros-first 1441 j),
     )
 
 shared-slice-read-counted : tie.Need-shared-slice-read-counted Inv-loop μ-loop
@@ -71,10 +72,11 @@ loop-again c =
       simp length-set (at-loop .loop .inv .4),
       entries-more (total (harvestAt harvest)) (at-loop .loop .sums) (at-loop .loop .k) _ (at-loop .loop .inv .5) sum long,
       small-more (at-loop .loop .sums) (at-loop .loop .k + 1) _ mostHarvest (at-loop .loop .inv .6) (omega arith) long,
+      zeros-more (at-loop .loop .sums) (at-loop .loop .k) _ (at-loop .loop .inv .7),
     )
 
 returns : tie.Need-returns Inv-loop μ-loop
-returns c = ((λ k h l. c .before .loop .inv .5 k (omega arith)), c .before .loop .inv .6)
+returns c = ((λ k h l. c .before .loop .inv .5 k (omega arith)), c .before .loop .inv .6, (λ k h. c .before .loop .inv .7 k (omega arith)))
 
 pub totals-spec : {M : Type 1} → statement M
 totals-spec =
