@@ -7,7 +7,7 @@
 //!
 //! Build: rustc -O second.rs -o second (in a folder outside the repository)
 //! Use:   second day < SHEET | second cases < FILE | second make [sheets | plans] > FILE |
-//!        second self-test
+//!        second example NAME > SHEET | second self-test
 
 use std::io::{Read, Write};
 
@@ -579,7 +579,12 @@ fn day_listing(input: &[u8]) -> String {
     if input.len() > LONGEST_INPUT {
         return "too long\n".to_string();
     }
-    let (table, harvest) = match read_sheet(input) {
+    sheet_listing(input)
+}
+
+/// The listing of the day that stands in a sheet, or the refusal's number.
+fn sheet_listing(sheet: &[u8]) -> String {
+    let (table, harvest) = match read_sheet(sheet) {
         Err(refusal) => return format!("refused {}\n", refusal.number),
         Ok(read) => read,
     };
@@ -782,6 +787,7 @@ fn case_line(kind: u8, payload: &[u8]) -> String {
         b'P' => plan_sheet_case(payload),
         b'Q' => plan_table_case(payload),
         b'S' => step_case(payload),
+        b'D' => sheet_listing(payload).trim_end().to_string(),
         _ => "unknown".to_string(),
     }
 }
@@ -1083,11 +1089,11 @@ fn day_payload(day: &Day) -> Vec<u8> {
     table_payload(day.jobs.len() as i64, day.slots(), day.capacity, &day.jobs, &day.harvest)
 }
 
-/// The kinds of case, by group: those of the reader and the writer, and those of the planner and
-/// the step.
+/// The kinds of case, by group: those of the reader and the writer, and those of the planner, the
+/// step and the listing.
 const SHEETS: &[u8] = b"RW";
-const PLANS: &[u8] = b"PQS";
-const ALL_KINDS: &[u8] = b"RWPQS";
+const PLANS: &[u8] = b"PQSD";
+const ALL_KINDS: &[u8] = b"RWPQSD";
 
 /// The case file while it grows: each case's kind and payload.
 struct CaseFile {
@@ -1141,6 +1147,10 @@ impl CaseFile {
         }
         payload.extend(table);
         self.add(b'S', &payload);
+    }
+
+    fn list(&mut self, sheet: &[u8]) {
+        self.add(b'D', sheet);
     }
 
     /// A step from every state the day's run passes through, and one from its end.
@@ -1694,6 +1704,35 @@ fn add_random(file: &mut CaseFile, dice: &mut Dice) {
     }
 }
 
+/// The sheets of the folder examples/, by name.
+fn examples() -> Vec<(String, Vec<u8>)> {
+    let mut sheets = Vec::new();
+    for (i, day) in paper_days().iter().enumerate() {
+        sheets.push((format!("day-{}", i + 1), day.sheet()));
+    }
+    // not overloaded, and each of the six grounds in a dozen slots and more
+    let largest = large_day(&mut Dice { state: 3580 }, 18);
+    sheets.push(("largest-day".to_string(), largest.sheet()));
+    // day 1, where the deadline of job 1 is one slot past the end of the day
+    sheets.push(("refused".to_string(), with_number(&paper_days()[0].sheet(), 10, 5)));
+    sheets
+}
+
+fn example(name: &str) -> Vec<u8> {
+    let found = examples().into_iter().find(|example| example.0 == name);
+    found.expect("the name of an example").1
+}
+
+/// The listings: the examples, and random days in which every answer and ground has its turn.
+fn add_listings(file: &mut CaseFile, dice: &mut Dice) {
+    for (_, sheet) in examples() {
+        file.list(&sheet);
+    }
+    for i in 0..12 {
+        file.list(&day_in_turn(dice, i).sheet());
+    }
+}
+
 fn make_cases() -> CaseFile {
     let mut file = CaseFile { cases: Vec::new() };
     let mut dice = Dice { state: 2026 };
@@ -1702,6 +1741,7 @@ fn make_cases() -> CaseFile {
     add_odd_states(&mut file);
     add_random(&mut file, &mut dice);
     add_large(&mut file, &mut dice);
+    add_listings(&mut file, &mut dice);
     file
 }
 
@@ -1763,6 +1803,16 @@ fn test_day_program() {
     assert!(day_listing(&paper_days()[4].sheet()).ends_with("\nverdict undecided job 1\n"));
 }
 
+/// The largest example has the longest sheet, and every ground.
+fn test_largest_example() {
+    assert_eq!(example("largest-day").len(), 1964);
+    let listing = day_listing(&example("largest-day"));
+    for ground in ["none", "empty", "full", "noslack", "saving", "free"] {
+        assert!(listing.matches(&format!(" {ground} level ")).count() > 12, "{}", ground);
+    }
+    assert_eq!(day_listing(&example("refused")), "refused 5\n");
+}
+
 fn test_limits() {
     let answers: Vec<_> = limit_sheets()
         .iter()
@@ -1794,6 +1844,7 @@ fn test_random_days() {
 fn self_test() {
     test_paper_days();
     test_day_program();
+    test_largest_example();
     test_limits();
     test_random_days();
 }
@@ -1820,12 +1871,13 @@ fn main() {
         ["make"] => print(&make_cases().bytes_of(ALL_KINDS)),
         ["make", "sheets"] => print(&make_cases().bytes_of(SHEETS)),
         ["make", "plans"] => print(&make_cases().bytes_of(PLANS)),
+        ["example", name] => print(&example(name)),
         ["self-test"] => {
             self_test();
             print(b"ok\n");
         }
         _ => {
-            eprintln!("use: second day | cases | make [sheets | plans] | self-test");
+            eprintln!("use: second day | cases | make [sheets | plans] | example NAME | self-test");
             std::process::exit(2);
         }
     }

@@ -14,17 +14,29 @@ abbrev μ-loop : tie.MeasureT-loop
 loop-holds : tie.Need-loop-holds Inv-loop μ-loop
 loop-holds c = search needs
 
-case-at-requires : tie.Need-case-at-requires Inv-loop μ-loop
-case-at-requires c κs = search needs
+next-requires : tie.Need-next-requires Inv-loop μ-loop
+next-requires c κs = search needs
+
+shared-slice-read-case : tie.Need-shared-slice-read-case Inv-loop μ-loop
+shared-slice-read-case c = search needs
+
+payload-requires : tie.Need-payload-requires Inv-loop μ-loop
+payload-requires c κs = search needs
+
+case-requires : tie.Need-case-requires Inv-loop μ-loop
+case-requires c κs = search needs
+
+print-bad-requires : tie.Need-print-bad-requires Inv-loop μ-loop
+print-bad-requires c κs = search needs
+
+returns : tie.Need-returns Inv-loop μ-loop
+returns c = search needs
 
 slice-aggregate-word : tie.Need-slice-aggregate-word Inv-loop μ-loop
 slice-aggregate-word c = search needs
 
 word-requires : tie.Need-word-requires Inv-loop μ-loop
 word-requires c κs = search needs
-
-returns : tie.Need-returns Inv-loop μ-loop
-returns c = search needs
 
 loop-less : tie.Need-loop-less Inv-loop μ-loop
 loop-less c = search needs
@@ -42,10 +54,14 @@ cases-spec =
     Inv-loop
     μ-loop
     loop-holds
-    case-at-requires
+    next-requires
+    shared-slice-read-case
+    payload-requires
+    case-requires
+    print-bad-requires
+    returns
     slice-aggregate-word
     word-requires
-    returns
     loop-less
     loop-again
     returns-2)

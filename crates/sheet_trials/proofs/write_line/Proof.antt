@@ -35,8 +35,8 @@ number-requires c κs = search needs
 enum-known-why : tie.Need-enum-known-why
 enum-known-why c = search needs
 
-refusal-requires : tie.Need-refusal-requires
-refusal-requires c κs = search needs
+print-refusal-requires : tie.Need-print-refusal-requires
+print-refusal-requires c κs = search needs
 
 enum-told : tie.Need-enum-told
 enum-told c = search needs
@@ -47,20 +47,8 @@ slice-aggregate-word-3 c = search needs
 word-requires-3 : tie.Need-word-requires-3
 word-requires-3 c κs = search needs
 
-slice-aggregate-word-4 : tie.Need-slice-aggregate-word-4
-slice-aggregate-word-4 c = search needs
-
-word-requires-4 : tie.Need-word-requires-4
-word-requires-4 c κs = search needs
-
-sum-of-bytes-requires : tie.Need-sum-of-bytes-requires
-sum-of-bytes-requires c κs = search needs
-
-cast-number : tie.Need-cast-number
-cast-number c = search needs
-
-number-requires-2 : tie.Need-number-requires-2
-number-requires-2 c κs = search needs
+print-sum-requires : tie.Need-print-sum-requires
+print-sum-requires c κs = search needs
 
 returns : tie.Need-returns
 returns c = search needs
@@ -79,13 +67,9 @@ write-line-spec =
     word-requires-2
     number-requires
     enum-known-why
-    refusal-requires
+    print-refusal-requires
     enum-told
     slice-aggregate-word-3
     word-requires-3
-    slice-aggregate-word-4
-    word-requires-4
-    sum-of-bytes-requires
-    cast-number
-    number-requires-2
+    print-sum-requires
     returns)

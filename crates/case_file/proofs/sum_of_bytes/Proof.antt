@@ -2,8 +2,8 @@
 use Prim.Native.Nat.{_≤_, _-_}
 use lib.ListN.{length}
 use borrow.Author.Needs.{needs}
-use Rattle.sheet_trials.proofs.sum_of_bytes.Statement.{statement}
-use Rattle.sheet_trials.proofs.sum_of_bytes.Tie as tie
+use Rattle.case_file.proofs.sum_of_bytes.Statement.{statement}
+use Rattle.case_file.proofs.sum_of_bytes.Tie as tie
 
 abbrev Inv-loop : tie.InvT-loop
 Inv-loop bytes sum₀ i₀ sum i = i ≤ length bytes

@@ -2,8 +2,8 @@
 use Prim.Native.Nat.{_≤_, _-_}
 use Rattle.sheet.specs.Table.{mostJobs}
 use borrow.Author.Needs.{needs}
-use Rattle.sheet_trials.proofs.jobs_in.Statement.{statement}
-use Rattle.sheet_trials.proofs.jobs_in.Tie as tie
+use Rattle.case_file.proofs.jobs_in.Statement.{statement}
+use Rattle.case_file.proofs.jobs_in.Tie as tie
 
 abbrev Inv-loop : tie.InvT-loop
 Inv-loop bytes given jobs₀ k₀ jobs k = k ≤ mostJobs

@@ -1,0 +1,12 @@
+// Words and numbers on standard output.
+const STANDARD_OUTPUT: i32 = 1;
+
+// Prints these bytes as they stand.
+pub fn word(text: &[u8]) {
+    io::write_all(STANDARD_OUTPUT, text);
+}
+
+// Prints a number in decimal.
+pub fn number(n: usize) {
+    io::print_decimal(STANDARD_OUTPUT, n as u64);
+}
