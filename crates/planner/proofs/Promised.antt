@@ -24,7 +24,7 @@ use Rattle.demand.specs.declared.Overload.{Overload}
 use Rattle.demand.specs.declared.Searched.{Searched}
 use Rattle.demand.specs.declared.Searched.the-variants as Searched
 use Rattle.slot_run.specs.Choosing.{Choice, unfinished}
-use Rattle.slot_run.specs.Steps.{unfinishedSays}
+use Rattle.slot_run.specs.Promise.{unfinishedSays}
 use Rattle.slot_run.specs.Rules.{stateAt, planOf}
 use Rattle.slot_run.specs.declared.State.{State}
 use Rattle.slot_run.specs.declared.Unfinished.{Unfinished}

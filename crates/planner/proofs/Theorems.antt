@@ -9,9 +9,11 @@ use lib.ListN.{length}
 use borrow.Author.Tests.{ne-eqb, eqb-false, not-true}
 use Rattle.sheet.specs.Sheet.{slotsIn, tableIn, harvestIn, sheetFaults, sheetSays}
 use Rattle.sheet.specs.Table.{tableFaults, tableSays}
-use Rattle.sheet.specs.WellFormed.{GoodTable, WellFormed}
-use Rattle.sheet.proofs.Exactly.{own-refusal-exactly}
-use Rattle.sheet.proofs.Theorems.{table-accepted-exactly, sheet-accepted-exactly}
+use Rattle.sheet.specs.WellFormed.{GoodTable, WellFormed, sheetStates, tableStates, GivenFirst}
+use Rattle.sheet.specs.Refusals.{refusalSays}
+use Rattle.sheet.specs.declared.Refusal.{Refusal}
+use Rattle.sheet.proofs.Exactly.{own-refusal-exactly, own-no-refusal}
+use Rattle.sheet.proofs.Theorems.{table-accepted-exactly, sheet-accepted-exactly, call-on-sheet-refused-exactly, call-on-table-refused-exactly}
 use Rattle.sheet.specs.Paper.{Paper, gives, refuses, refusesAt}
 use Rattle.sheet.specs.declared.Refusal.the-variants.{Short, Mark, Counts, Layout, Window, Work}
 use Rattle.sheet.specs.declared.Table.{Table}
@@ -70,3 +72,15 @@ unfolding planSheet sheetSays
 wrong-sheet-plan-exactly s plan =
     Iff·trans (own-refusal-exactly (sheetFaults s) 7 (not (eqb (length plan) (slotsIn s))) (verdictOf (tableIn s) (harvestIn s)) (lit< tt))
     (Iff·and (sheet-accepted-exactly s) (not-equal (length plan) (slotsIn s)))
+
+-- ---- 1 to 6 are given exactly when each is stated and nothing earlier applies
+
+pub table-plan-refused-exactly : (t : Table) (harvest plan : List ℕ) (r : Refusal) → (planTable t harvest plan ≡ refusalSays r) ↔ GivenFirst (tableStates t harvest) r
+unfolding planTable
+table-plan-refused-exactly t harvest plan r =
+    call-on-table-refused-exactly t harvest _ r (own-no-refusal 7 (not (eqb (length plan) (t .slots))) (verdictOf t harvest) (lit< tt))
+
+pub sheet-plan-refused-exactly : (s plan : List ℕ) (r : Refusal) → (planSheet s plan ≡ refusalSays r) ↔ GivenFirst (sheetStates s) r
+unfolding planSheet
+sheet-plan-refused-exactly s plan r =
+    call-on-sheet-refused-exactly s _ r (own-no-refusal 7 (not (eqb (length plan) (slotsIn s))) (verdictOf (tableIn s) (harvestIn s)) (lit< tt))

@@ -8,14 +8,14 @@ use native.Mathlib.Decide.{decLt}
 use native.Mathlib.Omega.{arith}
 use lib.Dec.{eqb}
 use borrow.Author.Tests.{eq-eqb, ne-eqb}
-use Rattle.sheet.specs.Paper.{Check, gives, refuses, refusesAt, _given-when_, _else_, givenAt, inOrder}
+use Rattle.sheet.specs.Paper.{Paper, Check, gives, refuses, refusesAt, _given-when_, _else_, givenAt, inOrder}
 use Rattle.sheet.specs.Refusals.{Faults, inTurn, refusalSays, outcomeSays}
 use Rattle.sheet.specs.WellFormed.{turnOf, GivenFirst}
 use Rattle.sheet.specs.declared.Refusal.{Refusal}
 use Rattle.sheet.specs.declared.Refusal.the-variants.{Short, Mark, Counts, Layout, Window, Work}
 use Rattle.sheet.specs.declared.Outcome.{Outcome}
 use Rattle.sheet.specs.declared.Outcome.the-variants.{Accepted, Refused}
-use Rattle.sheet.proofs.Order.{says-refuses, else-goes-on, refusal-stays}
+use Rattle.sheet.proofs.Order.{says-refuses, else-goes-on, refusal-stays, asCheck, as-refusal}
 
 pub either : (b : Bool) → (b ≡ true) ⊎ (b ≡ false)
 either true = inl refl
@@ -361,3 +361,27 @@ own-refusal-exactly {A} f n b x h = (
     given : (c : Bool) → (n given-when c else gives x) ≡ refuses n → c ≡ true
     given true p = refl
     given false p = let z : _≡_ {A = ℕ} 0 1 = cc in absurd (omega arith)
+
+-- a check's refusal is a call's answer exactly when it is the check's, whatever the call asks or gives after it
+pub check-refusal-exactly : {A : Type 0} (f : Faults) (b : Paper A) (r : Refusal) → ((q : Refusal) → b ≡ refusalSays q → ⊥)
+    → ((inTurn f else b) ≡ refusalSays r) ↔ (inTurn f ≡ refusalSays r)
+check-refusal-exactly {A} f b r never = (
+  (λ e.
+      ⊎-elim
+      (λ leave. absurd (never r (sym (else-goes-on (inTurn f) b leave) ∙ e)))
+      (λ q. q .1 ∙ ap refusalSays (refusal-same (q .0) r (sym (refusal-stays (q .0) b) ∙ ap (λ (a : Check). a else b) (sym (q .1)) ∙ e)))
+      (leave-or-refusal f)),
+  (λ e. ap (λ (a : Check). a else b) e ∙ refusal-stays r b),
+)
+  where
+    refusal-same : (q p : Refusal) → refusalSays {A = A} q ≡ refusalSays p → q ≡ p
+    refusal-same q p e = refusal-one q p (sym (as-refusal A q) ∙ ap asCheck e ∙ as-refusal A p)
+
+-- what is given is no refusal of a sheet or a table, and neither is a call's own
+pub given-no-refusal : {A : Type 0} (x : A) (q : Refusal) → gives x ≡ refusalSays q → ⊥
+unfolding asCheck
+given-no-refusal {A} x q e = refusal-not-given q (sym (as-refusal A q) ∙ sym (ap asCheck e))
+
+pub own-no-refusal : {A : Type 0} (n : ℕ) (b : Bool) (x : A) → 6 < n → (q : Refusal) → (n given-when b else gives x) ≡ refusalSays q → ⊥
+own-no-refusal n true x h q e = refusal-number q n h (sym e)
+own-no-refusal n false x h q e = given-no-refusal x q e

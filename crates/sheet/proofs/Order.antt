@@ -93,7 +93,7 @@ refusal-gives-nothing A (Work k) x y = refl
 
 -- ---- a check, and what is given after it
 
-asCheck : {A : Type 0} → Paper A → Check
+unfoldable pub asCheck : {A : Type 0} → Paper A → Check
 asCheck (gives x) = gives tt
 asCheck (refuses n) = refuses n
 asCheck (refusesAt n place) = refusesAt n place
@@ -104,7 +104,7 @@ as-check (gives x) y = refl
 as-check (refuses n) y = refl
 as-check (refusesAt n place) y = refl
 
-as-refusal : (A : Type 0) (r : Refusal) → asCheck (refusalSays {A = A} r) ≡ refusalSays r
+pub as-refusal : (A : Type 0) (r : Refusal) → asCheck (refusalSays {A = A} r) ≡ refusalSays r
 unfolding asCheck
 as-refusal A Short = refl
 as-refusal A Mark = refl

@@ -11,7 +11,7 @@ use lib.ListN.{length, take, drop, length-drop}
 use lib.Seq.{length-take-le, ext-getD}
 use native.Mathlib.Decide.{decLe}
 use borrow.Author.Tests.{lt-ltb, le-ltb, eq-eqb, ne-eqb, ltb-true, ltb-false, eqb-true, eqb-false, not-true, not-false}
-use Rattle.sheet.specs.Paper.{Check, gives}
+use Rattle.sheet.specs.Paper.{Paper, Check, gives, _else_}
 use Rattle.sheet.specs.Sums.{TotalsOf, ZerosBeyond}
 use Rattle.sheet.specs.Refusals.{Faults, inTurn, refusalSays}
 use Rattle.sheet.specs.Table.{mostJobs, mostSlots, noJob, jobOf, countsFault, windowFault, workFault, tableFaults, tableSays}
@@ -21,7 +21,7 @@ use Rattle.sheet.specs.declared.Job.{Job}
 use Rattle.sheet.specs.declared.Table.{Table}
 use Rattle.sheet.specs.declared.Refusal.{Refusal}
 use Rattle.sheet.specs.declared.Refusal.the-variants.{Short, Mark, Counts, Layout, Window, Work}
-use Rattle.sheet.proofs.Exactly.{either, never-both, applies, Clear, refused-exactly, accepted-exactly}
+use Rattle.sheet.proofs.Exactly.{either, never-both, applies, Clear, refused-exactly, accepted-exactly, check-refusal-exactly}
 use Rattle.sheet.proofs.Lists.{filled-get}
 use Rattle.sheet.proofs.Words.{counts-words, mark-words, layout-words, window-words, work-words, GoodWindow, GoodWork}
 
@@ -116,6 +116,17 @@ table-applies t harvest (Work k) = with-place (work-stated (jobOf t k) 0)
 pub table-refused-exactly : (t : Table) (harvest : List ℕ) (r : Refusal) → (tableSays t harvest ≡ refusalSays r) ↔ GivenFirst (tableStates t harvest) r
 unfolding tableSays
 table-refused-exactly t harvest r = Iff·trans (refused-exactly (tableFaults t harvest) r) (first-same _ _ (table-applies t harvest) r)
+
+-- and so is any call that checks a sheet, or a table with a harvest, before all else: `b` is what it asks and gives after that
+pub call-on-sheet-refused-exactly : {A : Type 0} (s : List ℕ) (b : Paper A) (r : Refusal) → ((q : Refusal) → b ≡ refusalSays q → ⊥)
+    → ((sheetSays s else b) ≡ refusalSays r) ↔ GivenFirst (sheetStates s) r
+unfolding sheetSays
+call-on-sheet-refused-exactly s b r never = Iff·trans (check-refusal-exactly (sheetFaults s) b r never) (sheet-refused-exactly s r)
+
+pub call-on-table-refused-exactly : {A : Type 0} (t : Table) (harvest : List ℕ) (b : Paper A) (r : Refusal) → ((q : Refusal) → b ≡ refusalSays q → ⊥)
+    → ((tableSays t harvest else b) ≡ refusalSays r) ↔ GivenFirst (tableStates t harvest) r
+unfolding tableSays
+call-on-table-refused-exactly t harvest b r never = Iff·trans (check-refusal-exactly (tableFaults t harvest) b r never) (table-refused-exactly t harvest r)
 
 -- ---- what is accepted
 

@@ -2,7 +2,7 @@
 use Prim.Native.Nat.{ℕ, zero, suc, _+_, _<_, _≤_}
 use mathlib.Core.Path.{_≡_, refl, sym, ap, ap₂, _∙_, subst}
 use mathlib.Core.Bool.{Bool, true, false, cond}
-use mathlib.Core.Logic.{_⊎_, inl, inr, ⊎-elim}
+use mathlib.Core.Logic.{_↔_, ⊎-elim}
 use native.Mathlib.Nat.{not-suc-le-zero}
 use native.Mathlib.Numerals.{add-one}
 use native.Mathlib.Decide.{decLt}
@@ -108,10 +108,17 @@ pub chosen-is : (t : Table) (s : State) (k : ℕ) → chosen t s ≡ job k → I
 unfolding chosen
 chosen-is t s k e = chosen-passes (ready t s) (deadlineOf t) (t .count) k e
 
--- Nobody is chosen where no job is ready.
-pub nobody-ready : (t : Table) (s : State) → chosen t s ≡ nobody → (k : ℕ) → k < t .count → ready t s k ≡ false
+-- Nobody is chosen exactly where no job is ready.
+pub nobody-ready : (t : Table) (s : State) → (chosen t s ≡ nobody) ↔ ((k : ℕ) → k < t .count → ready t s k ≡ false)
 unfolding chosen
-nobody-ready t s e = subst (FoundAmong (ready t s) (deadlineOf t) (t .count)) e (earliest-is (ready t s) (deadlineOf t) (t .count))
+nobody-ready t s = (
+  (λ e. subst (FoundAmong (ready t s) (deadlineOf t) (t .count)) e (earliest-is (ready t s) (deadlineOf t) (t .count))),
+  (λ none. go (chosen t s) refl none),
+)
+  where
+    go : (c : Choice) → chosen t s ≡ c → ((k : ℕ) → k < t .count → ready t s k ≡ false) → chosen t s ≡ nobody
+    go nobody e none = e
+    go (job k) e none = let is = chosen-is t s k e in absurd (never-both (is .passes) (none k (is .below)))
 
 -- ---- the choice that the code holds
 

@@ -2,17 +2,20 @@
 use Prim.Native.Nat.{ℕ, zero, suc, _+_, _<_, _≤_}
 use mathlib.Core.Path.{_≡_, refl, sym, ap, _∙_}
 use mathlib.Core.Bool.{cond}
+use mathlib.Core.Logic.{_↔_}
 use mathlib.Core.List.{List}
 use native.Mathlib.Omega.{arith}
 use lib.Dec.{eqb}
 use borrow.Author.Tests.{lt-ltb, le-ltb}
 use Rattle.sheet.specs.Paper.{Paper, gives, refuses, refusesAt}
 use Rattle.sheet.specs.Table.{tableSays}
-use Rattle.sheet.specs.WellFormed.{GoodTable}
+use Rattle.sheet.specs.WellFormed.{GoodTable, tableStates, GivenFirst}
+use Rattle.sheet.specs.Refusals.{refusalSays}
+use Rattle.sheet.specs.declared.Refusal.{Refusal}
 use Rattle.sheet.specs.declared.Refusal.the-variants.{Short, Mark, Counts, Layout, Window, Work}
 use Rattle.sheet.specs.declared.Table.{Table}
-use Rattle.sheet.proofs.Exactly.{outcome-one}
-use Rattle.sheet.proofs.Theorems.{table-accepted-exactly}
+use Rattle.sheet.proofs.Exactly.{outcome-one, given-no-refusal}
+use Rattle.sheet.proofs.Theorems.{table-accepted-exactly, call-on-table-refused-exactly}
 use Rattle.slot_run.specs.declared.State.{State}
 use Rattle.slot_run.specs.declared.BusyWhy.the-variants.{Full, NoSlack, Free}
 use Rattle.slot_run.specs.declared.IdleWhy.the-variants.{None, Empty, Saving}
@@ -22,9 +25,11 @@ use Rattle.slot_run.specs.declared.Start.{Start}
 use Rattle.slot_run.specs.declared.Stepped.{Stepped}
 use Rattle.slot_run.specs.declared.Stepped.the-variants.{Refused, Over, Decided}
 use Rattle.slot_run.specs.declared.StepResult.{StepResult}
+use Rattle.slot_run.specs.declared.Unfinished.{Unfinished}
+use Rattle.slot_run.specs.declared.Unfinished.the-variants.{Nothing, Job}
 use Rattle.slot_run.specs.Slack.{wants, slackTimeAt, slackTime, comesBefore, slackEnergyAt, slackEnergy}
 use Rattle.slot_run.specs.Rules.{Ruled, idle, busy, decisionSays, decided, nextState, firstState, stateAt}
-use Rattle.slot_run.specs.Promise.{Starts, Turn, over, ruled, steppedSays, stepOf, stateAfter, Steps}
+use Rattle.slot_run.specs.Promise.{unfinishedSays, Starts, Turn, over, ruled, steppedSays, stepOf, stateAfter, Steps}
 use Rattle.slot_run.proofs.Running.{state-slot}
 use Rattle.slot_run.proofs.Slacks.{LeastAmong, least-is}
 
@@ -68,11 +73,14 @@ module _ (t : Table) (harvest : List ℕ) (good : GoodTable t harvest) where
       ap (stepOf t harvest) (stepped-run n (omega arith)) ∙ rw (said, lt-ltb (stateAt t harvest n .slot) (t .slots) (omega arith))
 
   -- past the last slot: "day over", with the state as it was
-  pub stepped-over : stepOf t harvest (steppedState t harvest (t .slots)) ≡ gives over
-  unfolding stepOf
+  pub stepped-over : (stepOf t harvest (steppedState t harvest (t .slots)) ≡ gives over)
+      × (stateAfter t harvest (steppedState t harvest (t .slots)) ≡ steppedState t harvest (t .slots))
+  unfolding stepOf stateAfter
   stepped-over =
       let slot = state-slot t harvest (t .slots) in
-      ap (stepOf t harvest) (stepped-run (t .slots) (omega arith)) ∙ rw (said, le-ltb (stateAt t harvest (t .slots) .slot) (t .slots) (omega arith))
+      let end = stepped-run (t .slots) (omega arith) in
+      let past = le-ltb (stateAt t harvest (t .slots) .slot) (t .slots) (omega arith) in
+      (ap (stepOf t harvest) end ∙ rw (said, past), ap (stateAfter t harvest) end ∙ rw (said, past) (sym end))
 
 -- ---- any two results that a promise allows are equal
 
@@ -115,3 +123,15 @@ one-start {r = r} {q = q} a b =
     let outcome : r .outcome ≡ q .outcome = outcome-one (r .outcome) (q .outcome) (a .answer ∙ sym (b .answer)) in
     let state : r .state ≡ q .state = a .state ∙ sym (b .state) in
     λ i. record { outcome = outcome i; state = state i }
+
+pub one-unfinished : (r q : Unfinished) → unfinishedSays r ≡ unfinishedSays q → r ≡ q
+one-unfinished Nothing Nothing e = refl
+one-unfinished Nothing (Job k) e = let z : _≡_ {A = ℕ} 0 1 = cc in absurd (omega arith)
+one-unfinished (Job m) Nothing e = let z : _≡_ {A = ℕ} 0 1 = cc in absurd (omega arith)
+one-unfinished (Job m) (Job k) e = let same : m ≡ k = cc in ap Job same
+
+-- ---- 3 to 6 are given by a step exactly when each is stated and nothing earlier applies
+
+pub step-refused-exactly : (t : Table) (harvest : List ℕ) (s : State) (r : Refusal) → (stepOf t harvest s ≡ refusalSays r) ↔ GivenFirst (tableStates t harvest) r
+unfolding stepOf
+step-refused-exactly t harvest s r = call-on-table-refused-exactly t harvest _ r (given-no-refusal _)

@@ -14,6 +14,9 @@ use Rattle.slot_run.specs.declared.Start.{Start}
 use Rattle.slot_run.specs.declared.Stepped.{Stepped}
 use Rattle.slot_run.specs.declared.Stepped.the-variants.{Refused, Over, Decided}
 use Rattle.slot_run.specs.declared.StepResult.{StepResult}
+use Rattle.slot_run.specs.declared.Unfinished.{Unfinished}
+use Rattle.slot_run.specs.declared.Unfinished.the-variants.{Nothing, Job}
+use Rattle.slot_run.specs.Choosing.{Choice, nobody, job}
 use Rattle.slot_run.specs.Rules.{Ruled, decisionSays, decided, nextState, firstState}
 
 -- ---- the first state
@@ -51,3 +54,9 @@ stateAfter t harvest s = whereGiven (tableSays t harvest) (cond (ltb (s .slot) (
 pub record Steps (t : Table) (harvest : List ℕ) (s : State) (r : StepResult) : Type 0 where
   pub answer : steppedSays (r .answer) ≡ stepOf t harvest s
   pub state : r .state ≡ stateAfter t harvest s
+
+-- ---- what a day leaves unfinished, as the choice of a job
+
+abbrev pub unfinishedSays : Unfinished → Choice
+unfinishedSays Nothing = nobody
+unfinishedSays (Job k) = job k

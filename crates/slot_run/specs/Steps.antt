@@ -14,17 +14,11 @@ use Rattle.slot_run.specs.Slack.{comesBefore, coming}
 use Rattle.slot_run.specs.declared.State.{State}
 use Rattle.slot_run.specs.declared.Chosen.{Chosen}
 use Rattle.slot_run.specs.declared.Chosen.the-variants.{Nobody, Job}
-use Rattle.slot_run.specs.declared.Unfinished.{Unfinished}
-use Rattle.slot_run.specs.declared.Unfinished.the-variants.{Nothing, Job as Unfinished·Job}
 
 -- the choice that is held, without its deadline
 abbrev pub chosenSays : Chosen → Choice
 chosenSays Nobody = nobody
 chosenSays (Job k deadline) = job k
-
-abbrev pub unfinishedSays : Unfinished → Choice
-unfinishedSays Nothing = nobody
-unfinishedSays (Unfinished·Job k) = job k
 
 -- the two tests of a choice: ready, or only slots still wanted
 abbrev pub passes : Bool → Table → State → ℕ → Bool

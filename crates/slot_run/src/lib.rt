@@ -14,8 +14,8 @@ ghost use Rattle.sheet.specs.Table.{mostJobs, mostSlots, jobOf};
 ghost use Rattle.slot_run.specs.Choosing.{earliest, chosen, unfinished, deadlineOf, leftOf};
 ghost use Rattle.slot_run.specs.Slack.{zeroOrLess, slackTime};
 ghost use Rattle.slot_run.specs.Rules.{idle, busy, atHand, decisionSays, ruleFor, decided, stateBy, nextState, firstState, stateAt, planByte, idleByte, planOf};
-ghost use Rattle.slot_run.specs.Promise.{Starts, Steps};
-ghost use Rattle.slot_run.specs.Steps.{chosenSays, unfinishedSays, passes, DeadlineHeld, besides, Bounded, needsChargeBy, InDay};
+ghost use Rattle.slot_run.specs.Promise.{Starts, Steps, unfinishedSays};
+ghost use Rattle.slot_run.specs.Steps.{chosenSays, passes, DeadlineHeld, besides, Bounded, needsChargeBy, InDay};
 
 // The plan's byte for an idle slot.
 const IDLE: u8 = 255;

@@ -9,9 +9,11 @@ use lib.ListN.{length}
 use borrow.Author.Tests.{ltb-true, lt-ltb}
 use Rattle.sheet.specs.Sheet.{sheetLength, writeSays}
 use Rattle.sheet.specs.Table.{tableFaults}
-use Rattle.sheet.specs.WellFormed.{GoodTable}
-use Rattle.sheet.proofs.Exactly.{own-refusal-exactly}
-use Rattle.sheet.proofs.Theorems.{table-accepted-exactly}
+use Rattle.sheet.specs.WellFormed.{GoodTable, tableStates, GivenFirst}
+use Rattle.sheet.specs.Refusals.{refusalSays}
+use Rattle.sheet.specs.declared.Refusal.{Refusal}
+use Rattle.sheet.proofs.Exactly.{own-refusal-exactly, own-no-refusal}
+use Rattle.sheet.proofs.Theorems.{table-accepted-exactly, call-on-table-refused-exactly}
 use Rattle.sheet.specs.Paper.{Paper, gives, refuses, refusesAt}
 use Rattle.sheet.specs.declared.Refusal.the-variants.{Short, Mark, Counts, Layout, Window, Work}
 use Rattle.sheet.specs.declared.Table.{Table}
@@ -63,3 +65,10 @@ no-room-exactly t harvest out =
     Iff·trans
     (own-refusal-exactly (tableFaults t harvest) 8 (ltb (length out) (sheetLength (t .count) (t .slots))) (sheetLength (t .count) (t .slots)) (lit< tt))
     (Iff·and (table-accepted-exactly t harvest) (ltb-true _ _, lt-ltb _ _))
+
+-- 3 to 6 are given exactly when each is stated and nothing earlier applies
+pub write-refused-exactly : (t : Table) (harvest out : List ℕ) (r : Refusal) → (writeSays t harvest out ≡ refusalSays r) ↔ GivenFirst (tableStates t harvest) r
+unfolding writeSays
+write-refused-exactly t harvest out r =
+    call-on-table-refused-exactly t harvest _ r
+    (own-no-refusal 8 (ltb (length out) (sheetLength (t .count) (t .slots))) (sheetLength (t .count) (t .slots)) (lit< tt))
