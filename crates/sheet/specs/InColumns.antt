@@ -23,6 +23,7 @@ columnsOf t =
       release = columnOf (λ j. j .release) t;
       deadline = columnOf (λ j. j .deadline) t;
       wanted = columnOf (λ j. j .wanted) t;
+      energy = columnOf (λ j. j .energy) t;
       cost = columnOf costOf t;
     }
 

@@ -207,6 +207,7 @@ pub struct Columns {
     pub release: [u16; 64],
     pub deadline: [u16; 64],
     pub wanted: [u16; 64],
+    pub energy: [u8; 64],
     pub cost: [u32; 64],
 }
 
@@ -220,6 +221,7 @@ pub fn by_columns(t: Table) -> Columns
     let mut release = [0u16; 64];
     let mut deadline = [0u16; 64];
     let mut wanted = [0u16; 64];
+    let mut energy = [0u8; 64];
     let mut costs = [0u32; 64];
     let mut k = 0;
     while k < count {
@@ -227,6 +229,7 @@ pub fn by_columns(t: Table) -> Columns
         release[k] = j.release;
         deadline[k] = j.deadline;
         wanted[k] = j.wanted;
+        energy[k] = j.energy;
         costs[k] = cost(j.wanted, j.energy);
         k += 1;
     }
@@ -234,6 +237,7 @@ pub fn by_columns(t: Table) -> Columns
         release,
         deadline,
         wanted,
+        energy,
         cost: costs,
     }
 }

@@ -21,23 +21,27 @@ deadline-of j = j .deadline
 abbrev wanted-of : Job → ℕ
 wanted-of j = j .wanted
 
+abbrev energy-of : Job → ℕ
+energy-of j = j .energy
+
 abbrev Inv-loop : tie.InvT-loop
-Inv-loop t count release₀ deadline₀ wanted₀ costs₀ k₀ release deadline wanted costs k =
+Inv-loop t count release₀ deadline₀ wanted₀ energy₀ costs₀ k₀ release deadline wanted energy costs k =
     (count ≡ t .count) × (k ≤ count)
     × (release ≡ columnTo release-of t k)
     × (deadline ≡ columnTo deadline-of t k)
     × (wanted ≡ columnTo wanted-of t k)
+    × (energy ≡ columnTo energy-of t k)
     × (costs ≡ columnTo costOf t k)
     × (length costs ≡ mostJobs)
     × SmallCosts costs
 
 abbrev μ-loop : tie.MeasureT-loop
-μ-loop t count release₀ deadline₀ wanted₀ costs₀ k₀ release deadline wanted costs k = count - k
+μ-loop t count release₀ deadline₀ wanted₀ energy₀ costs₀ k₀ release deadline wanted energy costs k = count - k
 
 loop-holds : tie.Need-loop-holds Inv-loop μ-loop
 loop-holds c =
     let t = c .args .t1 in
-    (refl, search needs, column-none release-of t, column-none deadline-of t, column-none wanted-of t, column-none costOf t, refl, small-none mostJobs mostCost)
+    (refl, search needs, column-none release-of t, column-none deadline-of t, column-none wanted-of t, column-none energy-of t, column-none costOf t, refl, small-none mostJobs mostCost)
 
 mul-j : tie.Need-mul-j Inv-loop μ-loop
 mul-j c = search needs
@@ -62,6 +66,9 @@ mul-wanted c = search needs
 
 array-write-wanted : tie.Need-array-write-wanted Inv-loop μ-loop
 array-write-wanted c = search needs
+
+array-write-energy : tie.Need-array-write-energy Inv-loop μ-loop
+array-write-energy c = search needs
 
 cost-requires : tie.Need-cost-requires Inv-loop μ-loop
 cost-requires c κs = search needs
@@ -91,9 +98,10 @@ loop-again c =
       column-more release-of t _ k _ (inv .2) refl few,
       column-more deadline-of t _ k _ (inv .3) refl few,
       column-more wanted-of t _ k _ (inv .4) refl few,
-      column-more costOf t _ k _ (inv .5) (c .cost .ensures .0) few,
-      simp length-set (inv .6),
-      small-more (at-loop .loop .costs) k _ mostCost (inv .7) (c .cost .ensures .1) long,
+      column-more energy-of t _ k _ (inv .5) refl few,
+      column-more costOf t _ k _ (inv .6) (c .cost .ensures .0) few,
+      simp length-set (inv .7),
+      small-more (at-loop .loop .costs) k _ mostCost (inv .8) (c .cost .ensures .1) long,
     )
 
 returns : tie.Need-returns Inv-loop μ-loop
@@ -105,9 +113,10 @@ returns c =
         column-all release-of t _ _ (inv .2) at-end,
         column-all deadline-of t _ _ (inv .3) at-end,
         column-all wanted-of t _ _ (inv .4) at-end,
-        column-all costOf t _ _ (inv .5) at-end,
+        column-all energy-of t _ _ (inv .5) at-end,
+        column-all costOf t _ _ (inv .6) at-end,
       ),
-      inv .7,
+      inv .8,
     )
 
 pub by-columns-spec : {M : Type 1} → statement M
@@ -125,6 +134,7 @@ by-columns-spec =
     array-write-deadline
     mul-wanted
     array-write-wanted
+    array-write-energy
     cost-requires
     mul-costs
     array-write-costs
