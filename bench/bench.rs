@@ -4,6 +4,7 @@
 //! Both are timed in one run, turn about, so that what else the machine does falls on both. Their
 //! answers and every byte of their buffers are compared before the clock starts and after it stops.
 
+use std::arch::asm;
 use std::hint::black_box;
 use std::time::Instant;
 
@@ -408,6 +409,7 @@ extern "C" {
     fn gishronek_there_and_back(bytes: *const u8, length: usize, out: *mut u8, room: usize) -> u64;
     fn gishronek_search(bytes: *const u8, length: usize) -> u64;
     fn gishronek_plan(bytes: *const u8, length: usize, plan: *mut u8, room: usize) -> u64;
+    fn gishronek_first_step(bytes: *const u8, length: usize) -> u64;
 }
 
 fn proved_there_and_back(bytes: &[u8], out: &mut [u8]) -> u64 {
@@ -433,19 +435,31 @@ struct Day {
     bytes: Vec<u8>,
 }
 
-/// A day of nested windows: of every four jobs one has a window of nearly half the day, one of a
-/// quarter, and two have short ones inside it, so that in most slots a job with a late deadline is
-/// ready while jobs with earlier ones are still to come. The harvest swings with the day.
-fn day(what: &'static str, jobs: usize, slots: u16, capacity: u16, wanted: [u16; 4]) -> Day {
+/// What the four kinds of jobs want and what a busy slot of theirs costs, and how far the harvest
+/// swings: found by trying, so that no interval is overloaded and most slots are decided by rules 4
+/// to 6, for which both slacks are computed.
+struct Mix {
+    capacity: u16,
+    wanted: [u16; 4],
+    energy: [u8; 4],
+    swing: u32,
+}
+
+/// A day of nested windows: of every four jobs one may run in half the day, one in a third, one in an
+/// eighth and one in a sixteenth, and their releases are spread over the day. So in most slots a job
+/// with a late deadline is ready while jobs with earlier ones are still to come.
+fn day(what: &'static str, jobs: usize, slots: u16, mix: Mix) -> Day {
+    let Mix { capacity, wanted, energy, swing } = mix;
     let mut table = Table { jobs: [Job::default(); MOST_JOBS], count: jobs, slots, capacity };
     for number in 0..jobs {
         let kind = number % 4;
-        let window = slots / [2, 4, 16, 24][kind];
-        let release = (number as u16 * (slots / jobs as u16) * 7 / 8) % (slots - window);
-        let (wanted, energy) = (wanted[kind], [9, 7, 12, 14][kind] + number as u8 % 3);
+        let window = slots / [2, 3, 8, 16][kind];
+        let release = (number * (slots - window) as usize / jobs) as u16;
+        let (wanted, energy) = (wanted[kind], energy[kind]);
         table.jobs[number] = Job { release, deadline: release + window, wanted, energy };
     }
-    let harvest: Vec<u8> = (0..slots).map(|slot| (slot as u32 * 29 / slots as u32 % 6 * 3 + slot as u32 % 4) as u8).collect();
+    let harvest = |slot: u32| (slot * 8 / slots as u32 % 2 * swing + slot % 4) as u8;
+    let harvest: Vec<u8> = (0..slots as u32).map(harvest).collect();
     let mut bytes = vec![0; harvest.len() + RECORD * jobs + TRAILER];
     let length = write(&table, &harvest, &mut bytes);
     assert!(matches!(length, Ok(length) if length == bytes.len()));
@@ -510,25 +524,33 @@ fn compare(calls: [Call; 2], bytes: &[u8], room: usize) -> u64 {
     answers[0]
 }
 
-/// The nanoseconds a call of each, round by round.
+/// The nanoseconds a call of each, round by round: the two of a round stand side by side in time, so
+/// that the ratio is taken round by round.
 struct Times([Vec<f64>; 2]);
 
 impl Times {
-    /// The two of a round stand side by side in time, so that the ratio is taken round by round.
-    fn print(self, what: &str) {
+    fn print(&self, what: &str) {
         let Times([rust, proved]) = self;
-        let ratio = median(rust.iter().zip(&proved).map(|(rust, proved)| proved / rust).collect());
-        let [rust, proved] = [rust, proved].map(|times| median(times) / 1000.0);
+        let ratio = median(rust.iter().zip(proved).map(|(rust, proved)| proved / rust).collect());
+        let [rust, proved] = [rust, proved].map(|times| median(times.clone()) / 1000.0);
         println!("{what}: rust 1.00, gishronek {ratio:.2} ({rust:.2} and {proved:.2} microseconds)");
+    }
+
+    /// What is left of each when a part of it, timed by itself, is taken off.
+    fn without(&self, part: &Times) -> Times {
+        Times([0, 1].map(|which| {
+            let off = median(part.0[which].clone());
+            self.0[which].iter().map(|time| time - off).collect()
+        }))
     }
 }
 
-/// Compares the two on the day, on a buffer that is one short and on the day with each byte damaged,
-/// then times them on the day.
-fn bench(day: &Day, calls: [Call; 2], room: usize, rounds: usize, times: u32) -> Times {
+/// Compares the two on the day, on a buffer that is one short and on the day with one byte damaged
+/// (every so many bytes), then times them on the day: rounds of that many calls.
+fn bench(day: &Day, calls: [Call; 2], room: usize, every: usize, rounds: usize, times: u32) -> Times {
     let answer = compare(calls, &day.bytes, room);
     compare(calls, &day.bytes, room - 1);
-    for at in 0..day.bytes.len() {
+    for at in (0..day.bytes.len()).step_by(every) {
         let mut damaged = day.bytes.clone();
         damaged[at] ^= 0x81;
         compare(calls, &damaged, room);
@@ -546,18 +568,66 @@ fn bench(day: &Day, calls: [Call; 2], room: usize, rounds: usize, times: u32) ->
     Times(taken)
 }
 
+/// A day's benchmark. A round is that many calls: there and back, of the search, of the planner.
+fn bench_day(day: &Day, every: usize, [back, searches, plans]: [u32; 3]) {
+    let Day { what, table, harvest, bytes } = day;
+    let (jobs, slots) = (table.count, table.slots);
+    println!("{what}: {jobs} jobs, {slots} slots; by rules 1 to 6: {:?} slots", grounds(day));
+    let there_and_back = [rust_there_and_back, proved_there_and_back];
+    bench(day, there_and_back, bytes.len(), 1, 2000, back).print(&format!("there and back, {what}"));
+    let search = bench(day, [rust_search, proved_search], 1, every, 1000, searches);
+    search.print(&format!("search, {what}"));
+    let plan = bench(day, [rust_plan, proved_plan], harvest.len(), every, 500, plans);
+    plan.print(&format!("plan, {what}"));
+    plan.without(&search).print(&format!("run (plan without search), {what}"));
+}
+
+// ------------------------------------------------------------------------------------------
+// Stack
+// ------------------------------------------------------------------------------------------
+
+/// The bytes of stack that a proved call takes, its return address with them: it is called on a stack
+/// of its own, painted before, and the lowest byte that it changed is looked for.
+fn stack_of(call: usize, bytes: &[u8], out: &mut [u8]) -> usize {
+    // two paints, since what the call writes may be of the one colour
+    let taken = [0xA5u8, 0x5A].map(|paint| {
+        let mut stack = vec![paint; 1 << 18];
+        let top = (stack.as_mut_ptr() as usize + stack.len()) & !15;
+        // The call's stack pointer is the painted stack's end, and r12 keeps our own over the call.
+        unsafe {
+            asm!(
+                "mov r12, rsp",
+                "mov rsp, {top}",
+                "call {call}",
+                "mov rsp, r12",
+                top = in(reg) top,
+                call = in(reg) call,
+                in("rdi") bytes.as_ptr(),
+                in("rsi") bytes.len(),
+                in("rdx") out.as_mut_ptr(),
+                in("rcx") out.len(),
+                out("r12") _,
+                clobber_abi("sysv64"),
+            );
+        }
+        let low = stack.iter().position(|byte| *byte != paint).expect("a call writes to its stack");
+        top - (stack.as_ptr() as usize + low)
+    });
+    taken[0].max(taken[1])
+}
+
 fn main() {
+    let mix = Mix { capacity: 2013, wanted: [41, 18, 7, 8], energy: [7, 6, 17, 27], swing: 11 };
+    let largest = day("largest day", 64, 1440, mix);
+    let mix = Mix { capacity: 105, wanted: [17, 3, 1, 3], energy: [6, 11, 7, 31], swing: 12 };
+    let typical = day("typical day", 12, 96, mix);
     println!("medians of rounds, turn about; the buffers are not cleared between calls or rounds");
-    let largest = day("largest day", 64, 1440, 3000, [30, 16, 5, 4]);
-    let typical = day("typical day", 12, 96, 200, [12, 6, 2, 1]);
-    for (day, scale) in [(&largest, 1), (&typical, 20)] {
-        let what = day.what;
-        println!("{what}: {} jobs, {} slots; decided by rules 1 to 6: {:?} slots", day.table.count, day.table.slots, grounds(day));
-        let length = day.bytes.len();
-        bench(day, [rust_there_and_back, proved_there_and_back], length, 2000, 100 * scale).print(&format!("there and back, {what}"));
-        let searched = bench(day, [rust_search, proved_search], 1, 1000, scale);
-        let planned = bench(day, [rust_plan, proved_plan], day.harvest.len(), 400, scale);
-        searched.print(&format!("search, {what}"));
-        planned.print(&format!("plan, {what}"));
-    }
+    bench_day(&largest, 13, [200, 2, 1]);
+    bench_day(&typical, 1, [1000, 200, 30]);
+    let stack = |call: usize| {
+        let of = |day: &Day| stack_of(call, &day.bytes, &mut vec![0; day.harvest.len()]);
+        of(&largest).max(of(&typical))
+    };
+    println!("stack of a plan: {} bytes", stack(gishronek_plan as *const () as usize));
+    println!("stack of a step: {} bytes", stack(gishronek_first_step as *const () as usize));
 }

@@ -2,12 +2,17 @@
 use Prim.Native.Nat.{ℕ, _+_, _*_}
 use mathlib.Core.Path.{_≡_}
 use mathlib.Core.List.{List}
-use Rattle.sheet.specs.Paper.{Paper, gives, refuses, refusesAt}
+use Rattle.sheet.specs.Paper.{Paper, gives, refuses, refusesAt, whereGiven}
+use Rattle.sheet.specs.Table.{tableSays}
+use Rattle.sheet.specs.declared.Table.{Table}
 use Rattle.sheet.specs.Sheet.{tableRead, harvestRead, writeSays, bufferWritten}
 use Rattle.demand.specs.Search.{Found, interval, nothing, searchOf}
 use Rattle.demand.specs.declared.Kind.{Kind}
 use Rattle.demand.specs.declared.Kind.the-variants.{Time, Energy}
 use Rattle.demand.specs.declared.Overload.{Overload}
+use Rattle.slot_run.specs.Promise.{noState, stateAfter}
+use Rattle.slot_run.specs.Rules.{firstState}
+use Rattle.slot_run.specs.declared.State.{State}
 use Rattle.planner.specs.Plan.{Verdict, overloaded, met, undecided, planSheet, sheetPlanned}
 
 -- ---- there and back
@@ -66,3 +71,13 @@ planNumber (refusesAt n place) = refusedNumber
 pub record Plans (s plan : List ℕ) (r : ℕ) (after : List ℕ) : Type 0 where
   pub answer : r ≡ planNumber (planSheet s plan)
   pub buffer : after ≡ sheetPlanned s plan
+
+-- ---- the first step
+
+-- the day's first state, or what a refused start holds
+abbrev pub startOf : Table → List ℕ → State
+startOf t harvest = whereGiven (tableSays t harvest) (firstState t) noState
+
+-- the level after one step from there, on what the reader yields
+abbrev pub FirstSteps : List ℕ → ℕ → Type 0
+FirstSteps s r = r ≡ stateAfter (tableRead s) (harvestRead s) (startOf (tableRead s) (harvestRead s)) .level

@@ -1,4 +1,5 @@
-// The calls that the benchmark times: a sheet is read and written back, searched, and planned.
+// The calls that the benchmark times and measures: a sheet is read and written back, searched, planned,
+// and stepped.
 use demand::Kind;
 use demand::Overload;
 use demand::Searched;
@@ -10,7 +11,7 @@ ghost use Rattle.sheet.specs.Table.{mostJobs};
 ghost use Rattle.demand.specs.Search.{searchedSays};
 ghost use Rattle.planner.specs.Promise.{plannedSays};
 ghost use Rattle.writer.specs.Promise.{writtenSays};
-ghost use Rattle.bench.specs.Promise.{lengthOr0, kindPart, intervalNumber, foundNumber, planNumber, ThereAndBack, Searches, Plans};
+ghost use Rattle.bench.specs.Promise.{lengthOr0, kindPart, intervalNumber, foundNumber, planNumber, ThereAndBack, Searches, Plans, FirstSteps};
 
 // The numbers beside an interval's: a refusal's, and an undecided day's with its job 0.
 const REFUSED: u64 = 1 << 40;
@@ -104,4 +105,18 @@ pub extern "C" fn gishronek_plan(bytes: &[u8], plan: &mut [u8]) -> u64
     ensures { λ r. ⌜ Plans (now (bytes .entry)) (now (plan .entry)) r (now (plan .exit)) ⌝ }
 {
     plan_number(planner::plan_sheet(bytes, plan))
+}
+
+// Reads the sheet in `bytes`, starts its day and takes one step: the charge level after it, 0 where
+// the sheet is refused. The table of a refused sheet has no slots, so the start is refused too, and
+// its state, all zeros, is handed back by the step as it was.
+#[no_mangle]
+pub extern "C" fn gishronek_first_step(bytes: &[u8]) -> u64
+    ensures { λ r. ⌜ FirstSteps (now (bytes .entry)) r ⌝ }
+{
+    let reading = reader::read(bytes);
+    let harvest = reader::stretch(bytes, reading.table.count, reading.table.slots);
+    let start = slot_run::begin(reading.table, harvest);
+    let stepped = slot_run::step(reading.table, harvest, start.state);
+    stepped.state.level as u64
 }
