@@ -20,7 +20,7 @@ use Rattle.demand.specs.declared.Searched.the-variants as Searched
 use Rattle.slot_run.specs.Choosing.{Choice, nobody, job, unfinished}
 use Rattle.slot_run.specs.Rules.{stateAt}
 use Rattle.slot_run.proofs.Choosing.{chosen-passes}
-use Rattle.planner.specs.Plan.{Verdict, met, undecided, byFound, byUnfinished, verdictOf, planSheet}
+use Rattle.planner.specs.Plan.{Verdict, undecided, byFound, byUnfinished, verdictOf, planSheet}
 use Rattle.planner.specs.Promise.{plannedSays, PlansSheet}
 use Rattle.planner.specs.declared.Planned.{Planned}
 use Rattle.planner.specs.declared.Planned.the-variants as Planned

@@ -1,6 +1,5 @@
 -- A table's jobs by columns: how a sum over all jobs is read. No promise of the paper rests on this page.
 use Prim.Native.Nat.{ℕ, _*_, _≤_}
-use mathlib.Core.Path.{_≡_}
 use mathlib.Core.List.{List}
 use lib.ListN.{getD}
 use Rattle.sheet.specs.Lists.{filled}

@@ -4,7 +4,7 @@ use sheet::Refusal;
 use sheet::Table;
 ghost use mathlib.Core.Path.{_≡_};
 ghost use mathlib.Core.Bool.{cond, not, _&&_, _||_};
-ghost use Prim.Native.Nat.{min, _+_, _*_, _≤_, _<_};
+ghost use Prim.Native.Nat.{min, _+_, _≤_, _<_};
 ghost use Rattle.sheet.specs.WellFormed.{GoodTable};
 ghost use lib.ListN.{length, getD};
 ghost use Rattle.sheet.specs.InColumns.{columnsOf, SmallCosts};

@@ -3,7 +3,7 @@ use Prim.Native.Nat.{ℕ}
 use mathlib.Core.Path.{_≡_, ap, _∙_}
 use mathlib.Core.List.{List}
 use borrow.Author.Needs.{needs}
-use Rattle.sheet.specs.Sheet.{tableRead, harvestRead}
+use Rattle.sheet.specs.Sheet.{tableRead}
 use Rattle.sheet.specs.declared.Table.{Table}
 use Rattle.reader.specs.Promise.{harvestBehind}
 use Rattle.slot_run.specs.Promise.{Starts, Steps, stateAfter}

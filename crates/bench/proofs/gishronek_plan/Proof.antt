@@ -1,6 +1,6 @@
 -- The planner's own promise, its answer as one number.
 use Prim.Native.Nat.{ℕ}
-use mathlib.Core.Path.{_≡_, sym, ap, _∙_}
+use mathlib.Core.Path.{_≡_, ap, _∙_}
 use mathlib.Core.List.{List}
 use borrow.Author.Needs.{needs}
 use Rattle.planner.specs.Promise.{plannedSays, PlansSheet}

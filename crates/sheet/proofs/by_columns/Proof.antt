@@ -1,10 +1,10 @@
 -- The loop keeps: each column holds the numbers of the jobs before k, and zeros stand in the other places.
 use Prim.Native.Nat.{ℕ, _<_, _≤_, _-_}
-use mathlib.Core.Path.{_≡_, refl, sym, ap, _∙_}
+use mathlib.Core.Path.{_≡_, refl}
 use native.Mathlib.Omega.{arith}
 use lib.ListN.{length, length-set}
-use Rattle.sheet.specs.Table.{mostJobs, jobOf}
-use Rattle.sheet.specs.InColumns.{columnOf, columnsOf, costOf, mostCost, SmallCosts}
+use Rattle.sheet.specs.Table.{mostJobs}
+use Rattle.sheet.specs.InColumns.{costOf, mostCost, SmallCosts}
 use Rattle.sheet.specs.declared.Job.{Job}
 use Rattle.sheet.proofs.InColumns.{columnTo, column-none, column-more, column-all}
 use Rattle.sheet.proofs.Sums.{small-none, small-more}

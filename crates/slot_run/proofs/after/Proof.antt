@@ -1,6 +1,6 @@
 -- A busy slot's job is below the count, wants the slot and can be paid, by the rules; the state is that of either kind of slot.
 use Prim.Native.Nat.{_<_, _≤_}
-use mathlib.Core.Path.{_≡_, sym, ap, _∙_}
+use mathlib.Core.Path.{sym, ap, _∙_}
 use native.Mathlib.Omega.{arith}
 use Rattle.sheet.specs.Table.{jobOf}
 use Rattle.sheet.proofs.InColumns.{column-at}

@@ -1,7 +1,6 @@
 -- Each return follows the tests that led to it.
 use native.Mathlib.Omega.{arith}
 use Rattle.sheet.proofs.Tests.{tests}
-use borrow.Author.Needs.{needs}
 use Rattle.slot_run.proofs.coming_part.Statement.{statement}
 use Rattle.slot_run.proofs.coming_part.Tie as tie
 

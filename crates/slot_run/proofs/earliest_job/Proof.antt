@@ -1,15 +1,12 @@
 -- The loop keeps: what is held is the choice among the jobs before k, with its own deadline.
 use Prim.Native.Nat.{ℕ, _≤_, _-_}
-use mathlib.Core.Path.{_≡_, sym, ap, ap₂, _∙_, subst}
-use mathlib.Core.Bool.{Bool, not, _&&_, _||_}
+use mathlib.Core.Path.{_≡_, sym, ap, _∙_, subst}
 use mathlib.Core.List.{List}
 use mathlib.Core.Logic.{⊎-elim}
 use native.Mathlib.Omega.{arith}
-use lib.Dec.{ltb, leb}
 use lib.ListN.{getD}
-use Rattle.sheet.specs.Table.{jobOf}
 use Rattle.sheet.proofs.InColumns.{column-at}
-use Rattle.slot_run.specs.Choosing.{Choice, smaller, earliest, deadlineOf, leftOf}
+use Rattle.slot_run.specs.Choosing.{Choice, smaller, earliest, deadlineOf}
 use Rattle.slot_run.specs.Steps.{chosenSays, DeadlineHeld, passes}
 use Rattle.slot_run.proofs.Choosing.{earliest-none, earliest-passes, earliest-fails, passes-read, beside-says, beside-holds}
 use borrow.Author.Needs.{needs}

@@ -8,7 +8,6 @@ use borrow.Author.Tests.{ltb-true, ltb-false}
 use lib.ListN.{getD}
 use Rattle.sheet.specs.InColumns.{costOf, mostCost}
 use Rattle.sheet.specs.Sums.{total, some}
-use Rattle.sheet.specs.Table.{jobOf}
 use Rattle.sheet.proofs.Sums.{total-none, total-more, some-none, some-clear, some-here}
 use Rattle.sheet.proofs.InColumns.{column-at}
 use Rattle.slot_run.specs.Choosing.{deadlineOf}

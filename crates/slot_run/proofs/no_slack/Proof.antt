@@ -1,5 +1,5 @@
 -- The inner loop sums the pending work up to job k's deadline; the outer keeps that no job before k is without slack.
-use Prim.Native.Nat.{ℕ, _≤_, _<_, _+_, _-_, _*_}
+use Prim.Native.Nat.{ℕ, _≤_, _+_, _-_, _*_}
 use mathlib.Core.Path.{_≡_, sym, ap, ap₂, _∙_}
 use mathlib.Core.Bool.{false}
 use mathlib.Core.Logic.{⊎-elim}

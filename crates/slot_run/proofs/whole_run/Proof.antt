@@ -1,11 +1,10 @@
 -- The loop keeps: the state is that of slot n, and the plan holds the bytes of the slots before n.
-use Prim.Native.Nat.{ℕ, _≤_, _<_, _+_, _-_}
-use mathlib.Core.Path.{_≡_, refl, sym, ap, ap₂, _∙_, subst}
-use mathlib.Core.List.{List}
+use Prim.Native.Nat.{_≤_, _<_, _-_}
+use mathlib.Core.Path.{_≡_, refl, sym, ap, _∙_}
 use native.Mathlib.Omega.{arith}
 use lib.ListN.{length, length-set}
 use Rattle.slot_run.specs.Steps.{InDay}
-use Rattle.sheet.proofs.Lists.{over, over-none, over-more, over-length, over-all}
+use Rattle.sheet.proofs.Lists.{over, over-none, over-more, over-all}
 use Rattle.slot_run.specs.declared.State.{State}
 use Rattle.slot_run.specs.Rules.{stateAt, planByte, decided, nextState, planOf}
 use Rattle.slot_run.proofs.RuleLaws.{small-byte}
