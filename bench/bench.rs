@@ -1,9 +1,10 @@
-//! Times the proved reader and writer against an equal program in plain Rust: a sheet is read,
-//! and written back at the front of a buffer. Run it by bench/run.
+//! Times the proved calls against an equal program in plain Rust: a sheet is read and written back,
+//! read and searched for an overloaded interval, and planned. Run it by bench/run.
 //!
 //! Both are timed in one run, turn about, so that what else the machine does falls on both. Their
 //! answers and every byte of their buffers are compared before the clock starts and after it stops.
 
+use std::arch::asm;
 use std::hint::black_box;
 use std::time::Instant;
 
@@ -12,6 +13,11 @@ const MOST_SLOTS: u16 = 1440;
 const RECORD: usize = 8;
 const TRAILER: usize = 12;
 const MARK: [u8; 2] = [0x45, 0x48];
+const IDLE: u8 = 255;
+
+/// The answers beside an interval's number and 0, as crates/bench has them.
+const REFUSED: u64 = 1 << 40;
+const UNDECIDED: u64 = 1 << 41;
 
 // ------------------------------------------------------------------------------------------
 // The plain Rust program: the same table by value, the same checks in the same order
@@ -140,43 +146,347 @@ fn rust_there_and_back(bytes: &[u8], out: &mut [u8]) -> u64 {
     }
 }
 
+// ---- demand and overload
+
+impl Table {
+    fn jobs(&self) -> &[Job] {
+        &self.jobs[..self.count]
+    }
+}
+
+type Totals = [u32; MOST_SLOTS as usize + 1];
+
+/// Entry k is what the first k slots harvest.
+fn totals(harvest: &[u8]) -> Totals {
+    let mut sums = [0; MOST_SLOTS as usize + 1];
+    let mut sum = 0;
+    for (at, byte) in sums[1..].iter_mut().zip(harvest) {
+        sum += *byte as u32;
+        *at = sum;
+    }
+    sums
+}
+
+#[derive(Clone, Copy)]
+enum Kind {
+    Time,
+    Energy,
+}
+
+/// An overloaded interval. (Nobody here asks for its demand and supply.)
+#[allow(dead_code)]
+#[derive(Clone, Copy)]
+struct Overload {
+    kind: Kind,
+    from: u16,
+    to: u16,
+    demand: u32,
+    supply: u32,
+}
+
+/// The overloaded interval with the latest start among those from a job's release to this end.
+fn latest_start(table: &Table, totals: &Totals, to: u16) -> Option<Overload> {
+    let mut found = None;
+    let mut earliest = 0;
+    for start in table.jobs() {
+        let from = start.release;
+        if from < earliest || to <= from {
+            continue;
+        }
+        let (mut time, mut energy) = (0, 0);
+        for job in table.jobs() {
+            if from <= job.release && job.deadline <= to {
+                time += job.wanted as u32;
+                energy += job.wanted as u32 * job.energy as u32;
+            }
+        }
+        let slots = (to - from) as u32;
+        let supply = table.capacity as u32 + totals[to as usize] - totals[from as usize];
+        if slots < time {
+            found = Some(Overload { kind: Kind::Time, from, to, demand: time, supply: slots });
+            earliest = from + 1;
+        } else if supply < energy {
+            found = Some(Overload { kind: Kind::Energy, from, to, demand: energy, supply });
+            earliest = from + 1;
+        }
+    }
+    found
+}
+
+/// The first deadline after a slot, or slots + 1 where there is none.
+fn next_deadline(table: &Table, after: u16) -> u16 {
+    let mut next = table.slots + 1;
+    for job in table.jobs() {
+        if after < job.deadline && job.deadline < next {
+            next = job.deadline;
+        }
+    }
+    next
+}
+
+/// The overloaded interval with the smallest end, then the latest start, of a table that was read.
+fn search(table: &Table, totals: &Totals) -> Option<Overload> {
+    let mut to = next_deadline(table, 0);
+    while to <= table.slots {
+        if let Some(found) = latest_start(table, totals, to) {
+            return Some(found);
+        }
+        to = next_deadline(table, to);
+    }
+    None
+}
+
+// ---- the slot run
+
+struct State {
+    slot: u16,
+    level: u16,
+    left: [u16; MOST_JOBS],
+}
+
+/// What a slot does, and why.
+#[derive(Clone, Copy, Debug, PartialEq)]
+enum Decision {
+    None,
+    Empty,
+    Full(usize),
+    NoSlack(usize),
+    Saving,
+    Free(usize),
+}
+
+/// Of the jobs that pass, the one with the smallest deadline, ties the lowest number.
+fn earliest(table: &Table, passes: impl Fn(usize, &Job) -> bool) -> Option<usize> {
+    let mut so_far: Option<(usize, u16)> = None;
+    for (number, job) in table.jobs().iter().enumerate() {
+        if passes(number, job) && so_far.is_none_or(|(_, deadline)| job.deadline < deadline) {
+            so_far = Some((number, job.deadline));
+        }
+    }
+    so_far.map(|(number, _)| number)
+}
+
+/// Slack time is 0 or less.
+fn no_slack(table: &Table, state: &State) -> bool {
+    let slot = state.slot;
+    for (own, left) in table.jobs().iter().zip(&state.left) {
+        let end = own.deadline;
+        if slot < end && 0 < *left {
+            let mut pending = 0;
+            for (job, left) in table.jobs().iter().zip(&state.left) {
+                if slot < job.deadline && job.deadline <= end {
+                    pending += *left as u32;
+                }
+            }
+            if end as u32 <= slot as u32 + pending {
+                return true;
+            }
+        }
+    }
+    false
+}
+
+/// Slack energy is below the chosen job's energy.
+fn needs_charge(table: &Table, totals: &Totals, state: &State, chosen: &Job) -> bool {
+    let slot = state.slot;
+    for own in table.jobs() {
+        let end = own.deadline;
+        if slot < own.release && end < chosen.deadline {
+            let mut coming = 0;
+            for job in table.jobs() {
+                if slot < job.release && job.deadline <= end {
+                    coming += job.wanted as u32 * job.energy as u32;
+                }
+            }
+            let needed = coming + chosen.energy as u32;
+            if state.level as u32 + totals[end as usize] < needed + totals[slot as usize] {
+                return true;
+            }
+        }
+    }
+    false
+}
+
+/// The first of the six rules that applies, with what is at hand in the slot.
+fn decide(table: &Table, totals: &Totals, state: &State, at_hand: u32) -> Decision {
+    let slot = state.slot;
+    let ready = |number: usize, job: &Job| {
+        job.release <= slot && slot < job.deadline && 0 < state.left[number]
+    };
+    let Some(number) = earliest(table, ready) else {
+        return Decision::None;
+    };
+    let chosen = &table.jobs[number];
+    if at_hand < chosen.energy as u32 {
+        return Decision::Empty;
+    }
+    if at_hand > table.capacity as u32 {
+        return Decision::Full(number);
+    }
+    if no_slack(table, state) {
+        return Decision::NoSlack(number);
+    }
+    if needs_charge(table, totals, state, chosen) {
+        return Decision::Saving;
+    }
+    Decision::Free(number)
+}
+
+/// One step, where the state stands.
+fn step(table: &Table, harvest: &[u8], totals: &Totals, state: &mut State) -> Decision {
+    let at_hand = state.level as u32 + harvest[state.slot as usize] as u32;
+    let decision = decide(table, totals, state, at_hand);
+    let mut level = at_hand;
+    if let Decision::Full(number) | Decision::NoSlack(number) | Decision::Free(number) = decision {
+        level -= table.jobs[number].energy as u32;
+        state.left[number] -= 1;
+    }
+    state.slot += 1;
+    state.level = level.min(table.capacity as u32) as u16;
+    decision
+}
+
+fn first_state(table: &Table) -> State {
+    let mut left = [0; MOST_JOBS];
+    for (left, job) in left.iter_mut().zip(table.jobs()) {
+        *left = job.wanted;
+    }
+    State { slot: 0, level: table.capacity, left }
+}
+
+/// The plan of a table that was read, and the state after the last slot.
+fn whole_run(table: &Table, harvest: &[u8], totals: &Totals, plan: &mut [u8]) -> State {
+    let mut state = first_state(table);
+    for byte in plan.iter_mut() {
+        *byte = match step(table, harvest, totals, &mut state) {
+            Decision::Full(number) | Decision::NoSlack(number) | Decision::Free(number) => number as u8,
+            Decision::None | Decision::Empty | Decision::Saving => IDLE,
+        };
+    }
+    state
+}
+
+// ---- the calls, each answer as one number. Not inlined: the proved calls are not either.
+
+fn interval_number(found: &Overload) -> u64 {
+    let kind = match found.kind {
+        Kind::Time => 1,
+        Kind::Energy => 2,
+    };
+    kind + 4 * found.from as u64 + 4 * 65536 * found.to as u64
+}
+
+#[inline(never)]
+fn rust_search(bytes: &[u8], _: &mut [u8]) -> u64 {
+    let Ok((table, harvest)) = read(bytes) else {
+        return REFUSED;
+    };
+    search(&table, &totals(harvest)).map_or(0, |found| interval_number(&found))
+}
+
+#[inline(never)]
+fn rust_plan(bytes: &[u8], plan: &mut [u8]) -> u64 {
+    let Ok((table, harvest)) = read(bytes) else {
+        return REFUSED;
+    };
+    if plan.len() != harvest.len() {
+        return REFUSED;
+    }
+    let totals = totals(harvest);
+    if let Some(found) = search(&table, &totals) {
+        return interval_number(&found);
+    }
+    let end = whole_run(&table, harvest, &totals, plan);
+    earliest(&table, |number, _| 0 < end.left[number]).map_or(0, |number| UNDECIDED + number as u64)
+}
+
 // ------------------------------------------------------------------------------------------
-// The proved call, of target/staticlib/libbench.a
+// The proved calls, of target/staticlib/libbench.a
 // ------------------------------------------------------------------------------------------
 
+// A slice of the caller's is its pointer and its length.
 extern "C" {
     fn gishronek_there_and_back(bytes: *const u8, length: usize, out: *mut u8, room: usize) -> u64;
+    fn gishronek_search(bytes: *const u8, length: usize) -> u64;
+    fn gishronek_plan(bytes: *const u8, length: usize, plan: *mut u8, room: usize) -> u64;
+    fn gishronek_first_step(bytes: *const u8, length: usize) -> u64;
 }
 
 fn proved_there_and_back(bytes: &[u8], out: &mut [u8]) -> u64 {
-    // Two slices of the caller's, each as its pointer and its length.
     unsafe { gishronek_there_and_back(bytes.as_ptr(), bytes.len(), out.as_mut_ptr(), out.len()) }
 }
 
+fn proved_search(bytes: &[u8], _: &mut [u8]) -> u64 {
+    unsafe { gishronek_search(bytes.as_ptr(), bytes.len()) }
+}
+
+fn proved_plan(bytes: &[u8], plan: &mut [u8]) -> u64 {
+    unsafe { gishronek_plan(bytes.as_ptr(), bytes.len(), plan.as_mut_ptr(), plan.len()) }
+}
+
 // ------------------------------------------------------------------------------------------
-// Sheets
+// Days
 // ------------------------------------------------------------------------------------------
 
-/// A sheet with that many jobs and slots, none of which is refused.
-fn sheet(jobs: usize, slots: u16) -> Vec<u8> {
-    let mut table = Table { jobs: [Job::default(); MOST_JOBS], count: jobs, slots, capacity: 250 };
+struct Day {
+    what: &'static str,
+    table: Table,
+    harvest: Vec<u8>,
+    bytes: Vec<u8>,
+}
+
+/// What the four kinds of jobs want and what a busy slot of theirs costs, and how far the harvest
+/// swings: found by trying, so that no interval is overloaded and most slots are decided by rules 4
+/// to 6, for which both slacks are computed.
+struct Mix {
+    capacity: u16,
+    wanted: [u16; 4],
+    energy: [u8; 4],
+    swing: u32,
+}
+
+/// A day of nested windows: of every four jobs one may run in half the day, one in a third, one in an
+/// eighth and one in a sixteenth, and their releases are spread over the day. So in most slots a job
+/// with a late deadline is ready while jobs with earlier ones are still to come.
+fn day(what: &'static str, jobs: usize, slots: u16, mix: Mix) -> Day {
+    let Mix { capacity, wanted, energy, swing } = mix;
+    let mut table = Table { jobs: [Job::default(); MOST_JOBS], count: jobs, slots, capacity };
     for number in 0..jobs {
-        let release = (number as u16 * 37) % (slots - 20);
-        let (wanted, energy) = (1 + number as u16 % 9, 1 + number as u8 % 20);
-        table.jobs[number] = Job { release, deadline: release + 20, wanted, energy };
+        let kind = number % 4;
+        let window = slots / [2, 3, 8, 16][kind];
+        let release = (number * (slots - window) as usize / jobs) as u16;
+        let (wanted, energy) = (wanted[kind], energy[kind]);
+        table.jobs[number] = Job { release, deadline: release + window, wanted, energy };
     }
-    let harvest: Vec<u8> = (0..slots).map(|slot| (slot * 7 % 10) as u8).collect();
+    let harvest = |slot: u32| (slot * 8 / slots as u32 % 2 * swing + slot % 4) as u8;
+    let harvest: Vec<u8> = (0..slots as u32).map(harvest).collect();
     let mut bytes = vec![0; harvest.len() + RECORD * jobs + TRAILER];
     let length = write(&table, &harvest, &mut bytes);
     assert!(matches!(length, Ok(length) if length == bytes.len()));
-    bytes
+    Day { what, table, harvest, bytes }
+}
+
+/// How many slots each rule decides, in the order of the rules.
+fn grounds(day: &Day) -> [usize; 6] {
+    let totals = totals(&day.harvest);
+    let mut state = first_state(&day.table);
+    let mut counts = [0; 6];
+    for _ in 0..day.table.slots {
+        counts[match step(&day.table, &day.harvest, &totals, &mut state) {
+            Decision::None => 0,
+            Decision::Empty => 1,
+            Decision::Full(_) => 2,
+            Decision::NoSlack(_) => 3,
+            Decision::Saving => 4,
+            Decision::Free(_) => 5,
+        }] += 1;
+    }
+    counts
 }
 
 // ------------------------------------------------------------------------------------------
 // Timing
 // ------------------------------------------------------------------------------------------
-
-const ROUNDS: usize = 4000;
 
 type Call = fn(&[u8], &mut [u8]) -> u64;
 
@@ -205,47 +515,119 @@ fn median(mut values: Vec<f64>) -> f64 {
     values[values.len() / 2]
 }
 
-/// Both give the same answer and leave the same bytes, behind the sheet too.
-fn compare(bytes: &[u8], room: usize) {
-    let mut ours = vec![0xA5; room];
-    let mut theirs = vec![0xA5; room];
-    let answers = (proved_there_and_back(bytes, &mut ours), rust_there_and_back(bytes, &mut theirs));
-    assert_eq!(answers.0, answers.1, "the two answers differ");
-    assert_eq!(ours, theirs, "the two buffers differ");
+/// Both give the same answer and leave the same bytes. Answers it.
+fn compare(calls: [Call; 2], bytes: &[u8], room: usize) -> u64 {
+    let mut outs = [vec![0xA5; room], vec![0xA5; room]];
+    let answers = [0, 1].map(|which| calls[which](bytes, &mut outs[which]));
+    assert_eq!(answers[0], answers[1], "the two answers differ");
+    assert_eq!(outs[0], outs[1], "the two buffers differ");
+    answers[0]
 }
 
-fn bench(what: &str, bytes: &[u8], calls: u32) {
-    assert_eq!(rust_there_and_back(bytes, &mut vec![0; bytes.len()]), bytes.len() as u64);
-    compare(bytes, bytes.len() + 9);
-    compare(bytes, bytes.len());
-    compare(bytes, bytes.len() - 1);
-    for at in 0..bytes.len() {
-        let mut damaged = bytes.to_vec();
-        damaged[at] ^= 0x81;
-        compare(&damaged, bytes.len());
+/// The nanoseconds a call of each, round by round: the two of a round stand side by side in time, so
+/// that the ratio is taken round by round.
+struct Times([Vec<f64>; 2]);
+
+impl Times {
+    fn print(&self, what: &str) {
+        let Times([rust, proved]) = self;
+        let ratio = median(rust.iter().zip(proved).map(|(rust, proved)| proved / rust).collect());
+        let [rust, proved] = [rust, proved].map(|times| median(times.clone()) / 1000.0);
+        println!("{what}: rust 1.00, gishronek {ratio:.2} ({rust:.2} and {proved:.2} microseconds)");
     }
-    let mut out = [vec![0; bytes.len()], vec![0; bytes.len()]];
-    let mut times = [Vec::new(), Vec::new()];
-    for round in 0..ROUNDS {
+
+    /// What is left of each when a part of it, timed by itself, is taken off.
+    fn without(&self, part: &Times) -> Times {
+        Times([0, 1].map(|which| {
+            let off = median(part.0[which].clone());
+            self.0[which].iter().map(|time| time - off).collect()
+        }))
+    }
+}
+
+/// Compares the two on the day, on a buffer that is one short and on the day with one byte damaged
+/// (every so many bytes), then times them on the day: rounds of that many calls.
+fn bench(day: &Day, calls: [Call; 2], room: usize, every: usize, rounds: usize, times: u32) -> Times {
+    let answer = compare(calls, &day.bytes, room);
+    compare(calls, &day.bytes, room - 1);
+    for at in (0..day.bytes.len()).step_by(every) {
+        let mut damaged = day.bytes.clone();
+        damaged[at] ^= 0x81;
+        compare(calls, &damaged, room);
+    }
+    let mut outs = [vec![0; room], vec![0; room]];
+    let mut taken = [Vec::new(), Vec::new()];
+    for round in 0..rounds {
         // turn about, and each first in half the rounds
         for which in [round % 2, (round + 1) % 2] {
-            let call: Call = [rust_there_and_back as Call, proved_there_and_back][which];
-            times[which].push(BEHIND[round / 2 % 4](call, calls, bytes, &mut out[which]));
+            taken[which].push(BEHIND[round / 2 % 4](calls[which], times, &day.bytes, &mut outs[which]));
         }
     }
-    assert!(out[0] == bytes && out[1] == bytes, "the sheet did not come back");
-    // The two of a round stand side by side in time, so that the ratio is taken round by round.
-    let ratio = median(times[0].iter().zip(&times[1]).map(|(rust, proved)| proved / rust).collect());
-    let [rust, proved] = times.map(median);
-    println!(
-        "there and back, {what}: rust 1.00, gishronek {ratio:.2} ({rust:.0} ns and {proved:.0} ns)"
-    );
+    assert_eq!(outs[0], outs[1], "the two buffers differ");
+    assert_eq!(compare(calls, &day.bytes, room), answer);
+    Times(taken)
+}
+
+/// A day's benchmark. A round is that many calls: there and back, of the search, of the planner.
+fn bench_day(day: &Day, every: usize, [back, searches, plans]: [u32; 3]) {
+    let Day { what, table, harvest, bytes } = day;
+    let (jobs, slots) = (table.count, table.slots);
+    println!("{what}: {jobs} jobs, {slots} slots; by rules 1 to 6: {:?} slots", grounds(day));
+    let there_and_back = [rust_there_and_back, proved_there_and_back];
+    bench(day, there_and_back, bytes.len(), 1, 2000, back).print(&format!("there and back, {what}"));
+    let search = bench(day, [rust_search, proved_search], 1, every, 1000, searches);
+    search.print(&format!("search, {what}"));
+    let plan = bench(day, [rust_plan, proved_plan], harvest.len(), every, 500, plans);
+    plan.print(&format!("plan, {what}"));
+    plan.without(&search).print(&format!("run (plan without search), {what}"));
+}
+
+// ------------------------------------------------------------------------------------------
+// Stack
+// ------------------------------------------------------------------------------------------
+
+/// The bytes of stack that a proved call takes, its return address with them: it is called on a stack
+/// of its own, painted before, and the lowest byte that it changed is looked for.
+fn stack_of(call: usize, bytes: &[u8], out: &mut [u8]) -> usize {
+    // two paints, since what the call writes may be of the one colour
+    let taken = [0xA5u8, 0x5A].map(|paint| {
+        let mut stack = vec![paint; 1 << 18];
+        let top = (stack.as_mut_ptr() as usize + stack.len()) & !15;
+        // The call's stack pointer is the painted stack's end, and r12 keeps our own over the call.
+        unsafe {
+            asm!(
+                "mov r12, rsp",
+                "mov rsp, {top}",
+                "call {call}",
+                "mov rsp, r12",
+                top = in(reg) top,
+                call = in(reg) call,
+                in("rdi") bytes.as_ptr(),
+                in("rsi") bytes.len(),
+                in("rdx") out.as_mut_ptr(),
+                in("rcx") out.len(),
+                out("r12") _,
+                clobber_abi("sysv64"),
+            );
+        }
+        let low = stack.iter().position(|byte| *byte != paint).expect("a call writes to its stack");
+        top - (stack.as_ptr() as usize + low)
+    });
+    taken[0].max(taken[1])
 }
 
 fn main() {
-    println!(
-        "medians of {ROUNDS} rounds, turn about; the buffers are not cleared between calls or rounds"
-    );
-    bench("longest sheet (64 jobs, 1440 slots, 1964 bytes)", &sheet(64, 1440), 200);
-    bench("typical sheet (12 jobs, 96 slots, 204 bytes)", &sheet(12, 96), 1000);
+    let mix = Mix { capacity: 2013, wanted: [41, 18, 7, 8], energy: [7, 6, 17, 27], swing: 11 };
+    let largest = day("largest day", 64, 1440, mix);
+    let mix = Mix { capacity: 105, wanted: [17, 3, 1, 3], energy: [6, 11, 7, 31], swing: 12 };
+    let typical = day("typical day", 12, 96, mix);
+    println!("medians of rounds, turn about; the buffers are not cleared between calls or rounds");
+    bench_day(&largest, 13, [200, 2, 1]);
+    bench_day(&typical, 1, [1000, 200, 30]);
+    let stack = |call: usize| {
+        let of = |day: &Day| stack_of(call, &day.bytes, &mut vec![0; day.harvest.len()]);
+        of(&largest).max(of(&typical))
+    };
+    println!("stack of a plan: {} bytes", stack(gishronek_plan as *const () as usize));
+    println!("stack of a step: {} bytes", stack(gishronek_first_step as *const () as usize));
 }

@@ -1,8 +1,22 @@
-// The call that the benchmark times: a sheet is read, and written back at the front of a buffer.
+// The calls that the benchmark times and measures: a sheet is read and written back, searched, planned,
+// and stepped.
+use demand::Kind;
+use demand::Overload;
+use demand::Searched;
+use planner::Planned;
 use writer::Written;
 ghost use mathlib.Core.Path.{_≡_};
+ghost use Prim.Native.Nat.{ℕ, _<_, _≤_};
+ghost use Rattle.sheet.specs.Table.{mostJobs};
+ghost use Rattle.demand.specs.Search.{searchedSays};
+ghost use Rattle.planner.specs.Promise.{plannedSays};
 ghost use Rattle.writer.specs.Promise.{writtenSays};
-ghost use Rattle.bench.specs.Promise.{lengthOr0, ThereAndBack};
+ghost use Rattle.bench.specs.Promise.{lengthOr0, kindPart, intervalNumber, foundNumber, planNumber, ThereAndBack, Searches, Plans, FirstSteps};
+
+// The numbers beside an interval's: a refusal's, and an undecided day's with its job 0.
+const REFUSED: u64 = 1 << 40;
+
+const UNDECIDED: u64 = 1 << 41;
 
 // The length of the sheet that was written; 0 where it was refused.
 fn length_or_0(answer: Written) -> u64
@@ -26,4 +40,83 @@ pub extern "C" fn gishronek_there_and_back(bytes: &[u8], out: &mut [u8]) -> u64
     let reading = reader::read(bytes);
     let harvest = reader::stretch(bytes, reading.table.count, reading.table.slots);
     length_or_0(writer::write(reading.table, harvest, out))
+}
+
+// 1 for time, 2 for energy.
+fn kind_part(kind: Kind) -> u64
+    ensures { λ r. ⌜ (r ≡ kindPart kind) × (r ≤ 2) ⌝ }
+{
+    match kind {
+        Kind::Time => 1,
+        Kind::Energy => 2,
+    }
+}
+
+// An overloaded interval as one number, never 0: its kind, its start and its end.
+fn interval_number(o: Overload) -> u64
+    ensures { λ r. ⌜ r ≡ intervalNumber o ⌝ }
+{
+    let kind = o.kind;
+    kind_part(kind) + 4 * (o.from as u64) + 262144 * (o.to as u64)
+}
+
+// The search's answer as one number.
+fn found_number(answer: Searched) -> u64
+    ensures { λ r. ⌜ r ≡ foundNumber (searchedSays answer) ⌝ }
+{
+    match answer {
+        Searched::Refused(_) => REFUSED,
+        Searched::Overloaded(o) => interval_number(o),
+        Searched::Clear => 0,
+    }
+}
+
+// Reads the sheet in `bytes` and searches it: 0 where no interval is overloaded, the interval's number
+// where one is, 2^40 where the sheet is refused. The table of a refused sheet has no slots, so the
+// search refuses it too.
+#[no_mangle]
+pub extern "C" fn gishronek_search(bytes: &[u8]) -> u64
+    ensures { λ r. ⌜ Searches (now (bytes .entry)) r ⌝ }
+{
+    let reading = reader::read(bytes);
+    let harvest = reader::stretch(bytes, reading.table.count, reading.table.slots);
+    found_number(demand::search(reading.table, harvest))
+}
+
+// The planner's answer as one number, where an undecided day's job is one of a table's.
+fn plan_number(answer: Planned) -> u64
+    requires { ⌜ ((k : ℕ) → answer ≡ Planned.Undecided k → k < mostJobs) ⌝ }
+    ensures { λ r. ⌜ r ≡ planNumber (plannedSays answer) ⌝ }
+{
+    match answer {
+        Planned::Refused(_) => REFUSED,
+        Planned::WrongPlan => REFUSED,
+        Planned::Overloaded(o) => interval_number(o),
+        Planned::Met => 0,
+        Planned::Undecided(k) => UNDECIDED + k as u64,
+    }
+}
+
+// Plans the sheet in `bytes` into `plan`, a byte a slot: 0 where the day is met, 2^41 and the job's
+// number where it is undecided, the interval's number where it is overloaded, 2^40 where the sheet or
+// the length of `plan` is refused. In the last two cases every byte of `plan` is what it was.
+#[no_mangle]
+pub extern "C" fn gishronek_plan(bytes: &[u8], plan: &mut [u8]) -> u64
+    ensures { λ r. ⌜ Plans (now (bytes .entry)) (now (plan .entry)) r (now (plan .exit)) ⌝ }
+{
+    plan_number(planner::plan_sheet(bytes, plan))
+}
+
+// Reads the sheet in `bytes`, starts its day and takes one step: the charge level after it, 0 where
+// the sheet is refused. The table of a refused sheet has no slots, so the start is refused too, and
+// its state, all zeros, is handed back by the step as it was.
+#[no_mangle]
+pub extern "C" fn gishronek_first_step(bytes: &[u8]) -> u64
+    ensures { λ r. ⌜ FirstSteps (now (bytes .entry)) r ⌝ }
+{
+    let reading = reader::read(bytes);
+    let harvest = reader::stretch(bytes, reading.table.count, reading.table.slots);
+    let start = slot_run::begin(reading.table, harvest);
+    let stepped = slot_run::step(reading.table, harvest, start.state);
+    stepped.state.level as u64
 }

@@ -1,12 +1,13 @@
 -- What the loops keep, and what that comes to at their end.
 use Prim.Native.Nat.{ℕ, _+_, _-_, _*_, _<_, _≤_}
 use mathlib.Core.Path.{_≡_, refl, sym, ap, ap₂, _∙_, subst}
-use mathlib.Core.Bool.{Bool, true, false, cond}
+use mathlib.Core.Bool.{Bool, true, false, cond, _&&_}
 use mathlib.Core.List.{List}
 use mathlib.Core.Logic.{_⊎_, inl, inr, ⊎-elim}
 use native.Mathlib.Nat.{not-suc-le-zero}
 use native.Mathlib.Decide.{decLt}
 use native.Mathlib.Omega.{arith}
+use lib.Dec.{leb}
 use lib.ListN.{getD}
 use borrow.Author.Count.{below-more}
 use Rattle.sheet.proofs.Exactly.{either}
@@ -36,26 +37,30 @@ module _ (t : Table) (after : ℕ) where
   next-none h =
       record { later = omega arith; in-day = omega arith; is-one = λ l. absurd (omega arith); none-nearer = λ i l. absurd (not-suc-le-zero l) }
 
-  pub next-stays : (k next : ℕ) → NextSoFar k next → (after < jobOf t k .deadline → next ≤ jobOf t k .deadline) → NextSoFar (k + 1) next
-  next-stays k next s h =
-      record {
-        later = s .later;
-        in-day = s .in-day;
-        is-one = s .is-one;
-        none-nearer = below-more (λ i. after < jobOf t i .deadline → next ≤ jobOf t i .deadline) k (s .none-nearer) h;
-      }
+  -- job k's deadline, as the code reads it
+  module _ (k next own : ℕ) (is : own ≡ jobOf t k .deadline) (s : NextSoFar k next) where
+    pub next-stays : (after < own → next ≤ own) → NextSoFar (k + 1) next
+    next-stays h =
+        record {
+          later = s .later;
+          in-day = s .in-day;
+          is-one = s .is-one;
+          none-nearer =
+              below-more (λ i. after < jobOf t i .deadline → next ≤ jobOf t i .deadline) k (s .none-nearer)
+              (subst (λ (d : ℕ). after < d → next ≤ d) is h);
+        }
 
-  pub next-moves : (k next : ℕ) → NextSoFar k next → k < t .count → after < jobOf t k .deadline → jobOf t k .deadline < next → NextSoFar (k + 1) (jobOf t k .deadline)
-  next-moves k next s h a b =
-      record {
-        later = a;
-        in-day = let d = s .in-day in omega arith;
-        is-one = λ l. is-deadline t k h;
-        none-nearer =
-            below-more (λ i. after < jobOf t i .deadline → jobOf t k .deadline ≤ jobOf t i .deadline) k
-            (λ i l m. let n = s .none-nearer i l m in omega arith)
-            (λ l. omega arith);
-      }
+    pub next-moves : k < t .count → after < own → own < next → NextSoFar (k + 1) own
+    next-moves h a b =
+        record {
+          later = a;
+          in-day = let d = s .in-day in omega arith;
+          is-one = λ l. subst (λ (d : ℕ). isDeadline t d ≡ true) (sym is) (is-deadline t k h);
+          none-nearer =
+              below-more (λ i. after < jobOf t i .deadline → own ≤ jobOf t i .deadline) k
+              (λ i l m. let n = s .none-nearer i l m in omega arith)
+              (λ l. omega arith);
+        }
 
   pub next-found : (next : ℕ) → NextSoFar (t .count) next → NextDeadline t after next
   next-found next s =
@@ -96,6 +101,11 @@ module _ (t : Table) (from to n : ℕ) where
   pub energy-more : (counts : Bool) (amount more : ℕ) → counts ≡ within from to (jobOf t n) → amount ≡ jobOf t n .wanted * jobOf t n .energy → more ≡ cond counts amount 0
       → energyUpTo t from to (n + 1) ≡ energyUpTo t from to n + more
   energy-more = counted-more (λ k. within from to (jobOf t k)) (λ k. jobOf t k .wanted * jobOf t k .energy) n
+
+  -- a job is within, by its release and deadline as the code reads them
+  pub within-read : (counts : Bool) (release deadline : ℕ) → release ≡ jobOf t n .release → deadline ≡ jobOf t n .deadline
+      → counts ≡ (leb from release && leb deadline to) → counts ≡ within from to (jobOf t n)
+  within-read counts release deadline p q e = e ∙ ap₂ (λ (a b : ℕ). leb from a && leb b to) p q
 
   pub time-all : n ≡ t .count → timeUpTo t from to n ≡ timeDemand t from to
   unfolding timeDemand
@@ -164,7 +174,7 @@ module _ (t : Table) (found : ℕ → Found) (to : ℕ) where
   pub latest-at-first : LatestSoFar 0 (record { found = Nothing; earliest = 0 })
   latest-at-first = record { held = inl (refl, refl); none-later = λ i l. absurd (not-suc-le-zero l) }
 
-  pub latest-stays : (k : ℕ) (latest : Latest) → LatestSoFar k latest
+  latest-stays : (k : ℕ) (latest : Latest) → LatestSoFar k latest
       → (latest .earliest ≤ jobOf t k .release → jobOf t k .release < to → found (jobOf t k .release) ≡ nothing) → LatestSoFar (k + 1) latest
   latest-stays k latest s h =
       record {
@@ -191,10 +201,17 @@ module _ (t : Table) (found : ℕ → Found) (to : ℕ) where
       }))
       (found-or-not (found (jobOf t k .release)))
 
-  -- the same, with what was compared and what came of it under their own names
-  pub latest-compared : (k : ℕ) (latest moved : Latest) (x : Found) → LatestSoFar k latest → k < t .count → latest .earliest ≤ jobOf t k .release
-      → jobOf t k .release < to → x ≡ found (jobOf t k .release) → moved ≡ laterOf (jobOf t k .release) x latest → LatestSoFar (k + 1) moved
-  latest-compared k latest moved x s h a b e m = rw (m, e) (latest-moves k latest s h a b)
+  -- job k's release, as the code reads it
+  module _ (k from : ℕ) (is : from ≡ jobOf t k .release) (latest : Latest) (s : LatestSoFar k latest) where
+    pub latest-skipped : (latest .earliest ≤ from → from < to → ⊥) → LatestSoFar (k + 1) latest
+    latest-skipped h = latest-stays k latest s (λ l m. absurd (subst (λ (n : ℕ). latest .earliest ≤ n → n < to → ⊥) is h l m))
+
+    -- what was compared and what came of it under their own names
+    pub latest-compared : (moved : Latest) (x : Found) → k < t .count → latest .earliest ≤ from → from < to → x ≡ found from
+        → moved ≡ laterOf from x latest → LatestSoFar (k + 1) moved
+    latest-compared moved x h a b e m =
+        rw (m, e, is)
+        (latest-moves k latest s h (subst (λ (n : ℕ). latest .earliest ≤ n) is a) (subst (λ (n : ℕ). n < to) is b))
 
   pub latest-found : (harvest : List ℕ) (latest : Latest) → ((from : ℕ) → from < to → found from ≡ foundAt t harvest from to)
       → LatestSoFar (t .count) latest → latest .found ≡ findingOf (latestStart t harvest to to)

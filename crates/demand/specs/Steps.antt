@@ -5,6 +5,7 @@ use mathlib.Core.List.{List}
 use mathlib.Core.Bool.{true, false, cond}
 use lib.Dec.{ltb}
 use lib.ListN.{getD}
+use Rattle.sheet.specs.InColumns.{columnsOf, SmallCosts}
 use Rattle.sheet.specs.Sums.{TotalsOf}
 use Rattle.sheet.specs.WellFormed.{GoodTable, Bytes}
 use Rattle.sheet.specs.declared.Table.{Table}
@@ -30,6 +31,14 @@ pub record DayOf (t : Table) (harvest totals : List ℕ) : Type 0 where
 -- running totals that are those of some harvest with which the table is well formed
 abbrev pub TotalsLent : Table → List ℕ → Type 0
 TotalsLent t totals = (harvest : List ℕ) × DayOf t harvest totals
+
+-- columns that are the table's
+pub record ColumnsLent (t : Table) (release deadline wanted cost : List ℕ) : Type 0 where
+  pub release-is : release ≡ columnsOf t .release
+  pub deadline-is : deadline ≡ columnsOf t .deadline
+  pub wanted-is : wanted ≡ columnsOf t .wanted
+  pub cost-is : cost ≡ columnsOf t .cost
+  pub small : SmallCosts cost
 
 -- "capacity plus the harvest of slots t1 to t2 − 1", read off running totals
 abbrev pub supplyBy : ℕ → List ℕ → ℕ → ℕ → ℕ

@@ -8,9 +8,10 @@ ghost use mathlib.Core.Bool.{cond, _&&_};
 ghost use lib.Dec.{leb};
 ghost use lib.ListN.{getD};
 ghost use Prim.Native.Nat.{ℕ, _*_, _<_, _≤_};
+ghost use Rattle.sheet.specs.InColumns.{columnsOf};
 ghost use Rattle.sheet.specs.Table.{mostJobs, mostSlots};
 ghost use Rattle.demand.specs.Search.{searchedSays, searchOf, latestStart, smallestEnd};
-ghost use Rattle.demand.specs.Steps.{largestU8, DayOf, TotalsLent, findingOf, foundBy, laterOf, supplyBy, NextDeadline};
+ghost use Rattle.demand.specs.Steps.{largestU8, DayOf, TotalsLent, ColumnsLent, findingOf, foundBy, laterOf, supplyBy, NextDeadline};
 
 // The two kinds of demand: slots of time, and charge.
 pub enum Kind {
@@ -113,10 +114,18 @@ fn compared(latest: Latest, from: u16, to: u16, time: u32, energy: u32, supply: 
 }
 
 // The overloaded interval with the latest start among those from a job's release to this end. The
-// table is an accepted one, with the running totals of its harvest. The jobs are summed up here, in
-// a loop in the loop, so that the table is handed over once for each end only.
-fn latest_start(t: Table, totals: &Totals, to: u16) -> Finding
-    requires { ⌜ (to ≤ t .slots) × TotalsLent t (now totals) ⌝ }
+// table is an accepted one, with its columns and the running totals of its harvest. The jobs are
+// summed up here, in a loop in the loop, and every number is loaded before it is known to count.
+fn latest_start<'a>(
+    t: Table,
+    release: &'a [u16; 64],
+    deadline: &'a [u16; 64],
+    wanted: &'a [u16; 64],
+    cost: &'a [u32; 64],
+    totals: &'a Totals,
+    to: u16,
+) -> Finding
+    requires { ⌜ (to ≤ t .slots) × TotalsLent t (now totals) × ColumnsLent t (now release) (now deadline) (now wanted) (now cost) ⌝ }
     ensures { λ r. ⌜ ((harvest : List ℕ) → DayOf t harvest (now (totals .entry)) → r ≡ findingOf (latestStart t harvest to to)) ⌝ }
 {
     let count = t.count;
@@ -125,17 +134,16 @@ fn latest_start(t: Table, totals: &Totals, to: u16) -> Finding
         earliest: 0,
     };
     for k in 0..count {
-        let from = t.jobs[k].release;
+        let from = release[k];
         if from < latest.earliest || to <= from {
             continue;
         }
         let mut time: u32 = 0;
         let mut energy: u32 = 0;
         for i in 0..count {
-            let j = t.jobs[i];
-            let counts = is_within(from, to, j.release, j.deadline);
-            time += counted_if(counts, sheet::wide(j.wanted));
-            energy += counted_if(counts, sheet::cost(j.wanted, j.energy));
+            let counts = is_within(from, to, release[i], deadline[i]);
+            time += counted_if(counts, sheet::wide(wanted[i]));
+            energy += counted_if(counts, cost[i]);
         }
         let supply = energy_supply(t.capacity, totals, from, to);
         latest = compared(latest, from, to, time, energy, supply);
@@ -144,17 +152,18 @@ fn latest_start(t: Table, totals: &Totals, to: u16) -> Finding
 }
 
 // The first deadline after a slot, or slots + 1 where there is none.
-fn next_deadline(t: Table, after: u16) -> u16
-    requires { ⌜ (t .count ≤ mostJobs) × (t .slots ≤ mostSlots) × (after ≤ t .slots) ⌝ }
+fn next_deadline(t: Table, deadline: &[u16; 64], after: u16) -> u16
+    requires { ⌜ (t .count ≤ mostJobs) × (t .slots ≤ mostSlots) × (after ≤ t .slots) × (now deadline ≡ columnsOf t .deadline) ⌝ }
     ensures { λ r. ⌜ NextDeadline t after r ⌝ }
 {
-    let count = t.count;
     let mut next = t.slots + 1;
-    for k in 0..count {
-        let deadline = t.jobs[k].deadline;
-        if after < deadline && deadline < next {
-            next = deadline;
+    let mut k = 0;
+    while k < t.count {
+        let own = deadline[k];
+        if after < own && own < next {
+            next = own;
         }
+        k += 1;
     }
     next
 }
@@ -166,13 +175,22 @@ fn smallest_end(t: Table, totals: &Totals) -> Finding
     ensures { λ r. ⌜ ((harvest : List ℕ) → DayOf t harvest (now (totals .entry)) → r ≡ findingOf (smallestEnd t harvest (t .slots))) ⌝ }
 {
     let slots = t.slots;
-    let mut to = next_deadline(t, 0);
+    let columns = sheet::by_columns(t);
+    let mut to = next_deadline(t, &columns.deadline, 0);
     while to <= slots {
-        let found = latest_start(t, totals, to);
+        let found = latest_start(
+            t,
+            &columns.release,
+            &columns.deadline,
+            &columns.wanted,
+            &columns.cost,
+            totals,
+            to,
+        );
         if let Finding::Interval(_) = found {
             return found;
         }
-        to = next_deadline(t, to);
+        to = next_deadline(t, &columns.deadline, to);
     }
     Finding::Nothing
 }

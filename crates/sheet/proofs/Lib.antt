@@ -1,4 +1,5 @@
 pub mod Exactly
+pub mod InColumns
 pub mod Lists
 pub mod Order
 pub mod Parts

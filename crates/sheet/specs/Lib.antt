@@ -1,3 +1,4 @@
+pub mod InColumns
 pub mod Lists
 pub mod Paper
 pub mod Refusals

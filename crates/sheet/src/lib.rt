@@ -3,6 +3,7 @@
 ghost use mathlib.Core.Path.{_≡_};
 ghost use Prim.Native.Nat.{min, _*_, _≤_};
 ghost use Rattle.sheet.specs.Sums.{TotalsOf, SmallTotals, ZerosBeyond};
+ghost use Rattle.sheet.specs.InColumns.{columnsOf, mostCost, SmallCosts};
 ghost use Rattle.sheet.specs.Refusals.{outcomeSays, refusalNumber};
 ghost use Rattle.sheet.specs.Table.{mostJobs, mostSlots, countedAs, countsFault, windowFault, workFault, recordSays, recordsSay, tableSays};
 
@@ -67,7 +68,7 @@ pub fn wide(number: u16) -> u32
 
 // What all the slots that a job wants cost: slots wanted × energy.
 pub fn cost(wanted: u16, energy: u8) -> u32
-    ensures { λ r. ⌜ (r ≡ wanted * energy) × (r ≤ 65535 * 255) ⌝ }
+    ensures { λ r. ⌜ (r ≡ wanted * energy) × (r ≤ mostCost) ⌝ }
 {
     wanted as u32 * energy as u32
 }
@@ -198,4 +199,45 @@ pub fn totals(harvest: &[u8]) -> [u32; 1441]
         sums[k] = sum;
     }
     sums
+}
+
+// A table's jobs by columns, one number of each job in the job's place and zeros beyond the last job:
+// a sum over all jobs runs over columns several times as fast. A job's cost is slots wanted × energy.
+pub struct Columns {
+    pub release: [u16; 64],
+    pub deadline: [u16; 64],
+    pub wanted: [u16; 64],
+    pub energy: [u8; 64],
+    pub cost: [u32; 64],
+}
+
+// The columns of a table of at most 64 jobs. Only for a table that was checked; `demand` and
+// `slot_run` call it so.
+pub fn by_columns(t: Table) -> Columns
+    requires { ⌜ t .count ≤ mostJobs ⌝ }
+    ensures { λ r. ⌜ (r ≡ columnsOf t) × SmallCosts (r .cost) ⌝ }
+{
+    let count = t.count;
+    let mut release = [0u16; 64];
+    let mut deadline = [0u16; 64];
+    let mut wanted = [0u16; 64];
+    let mut energy = [0u8; 64];
+    let mut costs = [0u32; 64];
+    let mut k = 0;
+    while k < count {
+        let j = t.jobs[k];
+        release[k] = j.release;
+        deadline[k] = j.deadline;
+        wanted[k] = j.wanted;
+        energy[k] = j.energy;
+        costs[k] = cost(j.wanted, j.energy);
+        k += 1;
+    }
+    Columns {
+        release,
+        deadline,
+        wanted,
+        energy,
+        cost: costs,
+    }
 }

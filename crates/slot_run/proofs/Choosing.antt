@@ -1,19 +1,20 @@
 -- What the choice finds: "the smallest deadline, ties the lowest number".
 use Prim.Native.Nat.{ℕ, zero, suc, _+_, _<_, _≤_}
 use mathlib.Core.Path.{_≡_, refl, sym, ap, ap₂, _∙_, subst}
-use mathlib.Core.Bool.{Bool, true, false, cond}
+use mathlib.Core.Bool.{Bool, true, false, cond, not, _&&_, _||_}
 use mathlib.Core.Logic.{_↔_, ⊎-elim}
 use native.Mathlib.Nat.{not-suc-le-zero}
 use native.Mathlib.Numerals.{add-one}
 use native.Mathlib.Decide.{decLt}
 use native.Mathlib.Omega.{arith}
-use lib.Dec.{ltb}
+use lib.Dec.{ltb, leb}
 use borrow.Author.Tests.{ltb-true, ltb-false, lt-ltb, le-ltb}
+use Rattle.sheet.specs.Table.{jobOf}
 use Rattle.sheet.specs.declared.Table.{Table}
 use Rattle.sheet.proofs.Exactly.{either, never-both}
-use Rattle.slot_run.specs.Choosing.{Choice, nobody, job, smaller, earliest, deadlineOf, ready, chosen}
+use Rattle.slot_run.specs.Choosing.{Choice, nobody, job, smaller, earliest, deadlineOf, leftOf, ready, chosen}
 use Rattle.slot_run.specs.declared.State.{State}
-use Rattle.slot_run.specs.Steps.{chosenSays, DeadlineHeld, besides}
+use Rattle.slot_run.specs.Steps.{chosenSays, passes, DeadlineHeld, besides}
 use Rattle.slot_run.specs.declared.Chosen.{Chosen}
 use Rattle.slot_run.specs.declared.Chosen.the-variants.{Nobody, Job}
 
@@ -121,6 +122,12 @@ nobody-ready t s = (
     go (job k) e none = let is = chosen-is t s k e in absurd (never-both (is .passes) (none k (is .below)))
 
 -- ---- the choice that the code holds
+
+-- a job's test, with its numbers as the code reads them
+pub passes-read : (only-ready : Bool) (t : Table) (s : State) (k release deadline left : ℕ) (b : Bool) → release ≡ jobOf t k .release
+    → deadline ≡ deadlineOf t k → left ≡ leftOf s k → b ≡ ((not only-ready || (leb release (s .slot) && ltb (s .slot) deadline)) && ltb 0 left)
+    → b ≡ passes only-ready t s k
+passes-read only-ready t s k release deadline left b p q r e = e ∙ rw (p, q, r)
 
 pub beside-says : (t : Table) (so-far : Chosen) (k deadline : ℕ) → DeadlineHeld t so-far → deadline ≡ deadlineOf t k
     → chosenSays (besides so-far k deadline) ≡ smaller (deadlineOf t) (chosenSays so-far) k

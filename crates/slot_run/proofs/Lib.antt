@@ -1,5 +1,6 @@
 pub mod Choosing
 pub mod Deciding
+pub mod Lending
 pub mod Promised
 pub mod RuleLaws
 pub mod Running

@@ -5,7 +5,7 @@ use mathlib.Core.List.{List}
 use borrow.Author.Tests.{lt-ltb, le-ltb}
 use Rattle.sheet.specs.Paper.{Paper, gives}
 use Rattle.sheet.specs.Refusals.{refusalSays, outcomeSays}
-use Rattle.sheet.specs.Table.{tableSays}
+use Rattle.sheet.specs.Table.{mostJobs, tableSays}
 use Rattle.sheet.specs.declared.Refusal.{Refusal}
 use Rattle.sheet.specs.declared.Outcome.{Outcome}
 use Rattle.sheet.specs.declared.Outcome.the-variants as Outcome
@@ -25,6 +25,9 @@ use Rattle.slot_run.specs.Promise.{noState, Starts, Turn, over, ruled, S
 -- past the check
 pub checked-good : (t : Table) (harvest : List ℕ) (o : Outcome) → outcomeSays o ≡ tableSays t harvest → o ≡ Outcome.Accepted → GoodTable t harvest
 checked-good t harvest o said told = table-accepted-exactly t harvest .0 (says-gives o _ told said)
+
+pub checked-few : (t : Table) (harvest : List ℕ) (o : Outcome) → outcomeSays o ≡ tableSays t harvest → o ≡ Outcome.Accepted → t .count ≤ mostJobs
+checked-few t harvest o said told = checked-good t harvest o said told .few-jobs
 
 pub checked-day : (t : Table) (harvest totals : List ℕ) (s : State) (o : Outcome) → outcomeSays o ≡ tableSays t harvest → o ≡ Outcome.Accepted
     → s .slot < t .slots → TotalsOf harvest totals → SmallTotals totals → InDay t harvest totals s

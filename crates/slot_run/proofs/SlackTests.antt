@@ -37,6 +37,11 @@ and-false-right false b e = refl
 abbrev pub pendingPart : Table → State → ℕ → ℕ → ℕ
 pendingPart t s end i = cond (ltb (s .slot) (deadlineOf t i) && leb (deadlineOf t i) end) (leftOf s i) 0
 
+-- the same, with the job's deadline and what is left of it as the code reads them
+pub pending-read : (t : Table) (s : State) (end i deadline left part : ℕ) → deadline ≡ deadlineOf t i → left ≡ leftOf s i
+    → part ≡ cond (ltb (s .slot) deadline && leb deadline end) left 0 → part ≡ pendingPart t s end i
+pending-read t s end i deadline left part p q e = e ∙ ap₂ (λ (a b : ℕ). cond (ltb (s .slot) a && leb a end) b 0) p q
+
 -- job k still wants slots, and the work pending up to its deadline fills the time to it
 abbrev pub lacksSlack : Table → State → ℕ → Bool
 lacksSlack t s k = wants t s k && leb (deadlineOf t k) (s .slot + pending t s (deadlineOf t k))
@@ -69,6 +74,12 @@ no-slack-is t s =
 -- what job i counts for in the work coming up to `end`
 abbrev pub comingPart : Table → State → ℕ → ℕ → ℕ
 comingPart t s end i = cond (ltb (s .slot) (jobOf t i .release) && leb (deadlineOf t i) end) (jobOf t i .wanted * jobOf t i .energy) 0
+
+-- the same, with the job's numbers as the code reads them
+pub coming-read : (t : Table) (s : State) (end i release deadline cost part : ℕ) → release ≡ jobOf t i .release → deadline ≡ deadlineOf t i
+    → cost ≡ jobOf t i .wanted * jobOf t i .energy → part ≡ cond (ltb (s .slot) release && leb deadline end) cost 0 → part ≡ comingPart t s end i
+coming-read t s end i release deadline cost part p q r e =
+    e ∙ ap₂ (λ (a b : ℕ). cond (ltb (s .slot) a && leb b end) cost 0) p q ∙ ap (λ (x : ℕ). cond (ltb (s .slot) (jobOf t i .release) && leb (deadlineOf t i) end) x 0) r
 
 module _ (t : Table) (totals : List ℕ) (s : State) (own energy k : ℕ) where
   pub needs-not-coming : jobOf t k .release ≤ s .slot → needsChargeBy t totals s own energy k ≡ false

@@ -5,6 +5,7 @@ use mathlib.Core.List.{List}
 use mathlib.Core.Bool.{Bool, cond, not, _&&_, _||_}
 use lib.ListN.{getD}
 use lib.Dec.{ltb, leb}
+use Rattle.sheet.specs.InColumns.{columnsOf, SmallCosts}
 use Rattle.sheet.specs.Sums.{TotalsOf, SmallTotals}
 use Rattle.sheet.specs.Table.{mostJobs, mostSlots, jobOf}
 use Rattle.sheet.specs.WellFormed.{GoodTable}
@@ -41,6 +42,15 @@ pub record Bounded (t : Table) (totals : List ℕ) (s : State) : Type 0 where
   pub ends : (k : ℕ) → k < t .count → deadlineOf t k ≤ mostSlots
   pub slot-in : s .slot ≤ mostSlots
   pub small : SmallTotals totals
+
+-- columns that are the table's, and what the state leaves
+pub record Lent (t : Table) (s : State) (release deadline energy cost left : List ℕ) : Type 0 where
+  pub release-is : release ≡ columnsOf t .release
+  pub deadline-is : deadline ≡ columnsOf t .deadline
+  pub energy-is : energy ≡ columnsOf t .energy
+  pub cost-is : cost ≡ columnsOf t .cost
+  pub small-costs : SmallCosts cost
+  pub left-is : left ≡ s .left
 
 -- what rule 5 asks of job k, by running totals
 abbrev pub needsChargeBy : Table → List ℕ → State → ℕ → ℕ → ℕ → Bool

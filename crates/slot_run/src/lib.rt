@@ -1,21 +1,21 @@
 // The ED-H slot run: the first state of a day, one step from any state, and the run of a whole day.
-use sheet::Job;
 use sheet::Outcome;
 use sheet::Refusal;
 use sheet::Table;
 ghost use mathlib.Core.Path.{_≡_};
 ghost use mathlib.Core.Bool.{cond, not, _&&_, _||_};
-ghost use Prim.Native.Nat.{min, _+_, _*_, _≤_, _<_};
+ghost use Prim.Native.Nat.{min, _+_, _≤_, _<_};
 ghost use Rattle.sheet.specs.WellFormed.{GoodTable};
 ghost use lib.ListN.{length, getD};
-ghost use Rattle.sheet.specs.Sums.{some, SmallTotals};
+ghost use Rattle.sheet.specs.InColumns.{columnsOf, SmallCosts};
+ghost use Rattle.sheet.specs.Sums.{some, harvestAt, SmallTotals};
 ghost use lib.Dec.{ltb, leb};
 ghost use Rattle.sheet.specs.Table.{mostJobs, mostSlots, jobOf};
 ghost use Rattle.slot_run.specs.Choosing.{earliest, chosen, unfinished, deadlineOf, leftOf};
 ghost use Rattle.slot_run.specs.Slack.{zeroOrLess, slackTime};
 ghost use Rattle.slot_run.specs.Rules.{idle, busy, atHand, decisionSays, ruleFor, decided, stateBy, nextState, firstState, stateAt, planByte, idleByte, planOf};
 ghost use Rattle.slot_run.specs.Promise.{Starts, Steps, unfinishedSays};
-ghost use Rattle.slot_run.specs.Steps.{chosenSays, passes, DeadlineHeld, besides, Bounded, needsChargeBy, InDay};
+ghost use Rattle.slot_run.specs.Steps.{chosenSays, passes, DeadlineHeld, besides, Bounded, Lent, needsChargeBy, InDay};
 
 // The plan's byte for an idle slot.
 const IDLE: u8 = 255;
@@ -102,7 +102,7 @@ fn widened(energy: u8) -> u32
 fn is_ready(slot: u16, release: u16, deadline: u16, left: u16) -> bool
     ensures { λ r. ⌜ r ≡ (leb release slot && ltb slot deadline && ltb 0 left) ⌝ }
 {
-    if slot < release {
+    if release > slot {
         return false;
     }
     if deadline <= slot {
@@ -140,18 +140,23 @@ fn beside(so_far: Chosen, k: usize, deadline: u16) -> Chosen
 
 // Of the ready jobs, or of all that still want slots, the one with the smallest deadline, ties the
 // lowest number.
-fn earliest_job(t: Table, s: State, only_ready: bool) -> Chosen
-    requires { ⌜ t .count ≤ mostJobs ⌝ }
+fn earliest_job<'a>(
+    t: Table,
+    s: State,
+    release: &'a [u16; 64],
+    deadline: &'a [u16; 64],
+    left: &'a [u16; 64],
+    only_ready: bool,
+) -> Chosen
+    requires { ⌜ (t .count ≤ mostJobs) × (now release ≡ columnsOf t .release) × (now deadline ≡ columnsOf t .deadline) × (now left ≡ s .left) ⌝ }
     ensures { λ r. ⌜ (chosenSays r ≡ earliest (passes «only_ready» t s) (deadlineOf t) (t .count)) × DeadlineHeld t r ⌝ }
 {
-    let count = t.count;
-    let slot = s.slot;
     let mut so_far = Chosen::Nobody;
     let mut k = 0;
-    while k < count {
-        let deadline = t.jobs[k].deadline;
-        if passes_test(only_ready, slot, t.jobs[k].release, deadline, s.left[k]) {
-            so_far = beside(so_far, k, deadline);
+    while k < t.count {
+        let own = deadline[k];
+        if passes_test(only_ready, s.slot, release[k], own, left[k]) {
+            so_far = beside(so_far, k, own);
         }
         k += 1;
     }
@@ -159,11 +164,17 @@ fn earliest_job(t: Table, s: State, only_ready: bool) -> Chosen
 }
 
 // The chosen job: of the ready ones, the smallest deadline, ties the lowest number.
-fn choose(t: Table, s: State) -> Chosen
-    requires { ⌜ t .count ≤ mostJobs ⌝ }
+fn choose<'a>(
+    t: Table,
+    s: State,
+    release: &'a [u16; 64],
+    deadline: &'a [u16; 64],
+    left: &'a [u16; 64],
+) -> Chosen
+    requires { ⌜ (t .count ≤ mostJobs) × (now release ≡ columnsOf t .release) × (now deadline ≡ columnsOf t .deadline) × (now left ≡ s .left) ⌝ }
     ensures { λ r. ⌜ (chosenSays r ≡ chosen t s) × DeadlineHeld t r ⌝ }
 {
-    earliest_job(t, s, true)
+    earliest_job(t, s, release, deadline, left, true)
 }
 
 // What a job counts for in the work pending up to a deadline: the slots that it still wants, where
@@ -181,24 +192,22 @@ fn pending_part(slot: u16, end: u16, deadline: u16, left: u16) -> u32
 
 // Slack time is 0 or less: some job that still wants slots has a deadline that the work pending up to
 // it fills.
-fn no_slack(t: Table, s: State) -> bool
-    requires { ⌜ t .count ≤ mostJobs ⌝ }
+fn no_slack<'a>(t: Table, s: State, deadline: &'a [u16; 64], left: &'a [u16; 64]) -> bool
+    requires { ⌜ (t .count ≤ mostJobs) × (now deadline ≡ columnsOf t .deadline) × (now left ≡ s .left) ⌝ }
     ensures { λ r. ⌜ r ≡ zeroOrLess (slackTime t s) ⌝ }
 {
-    let count = t.count;
-    let slot = s.slot;
     let mut k = 0;
-    while k < count {
-        let end = t.jobs[k].deadline;
-        if slot < end {
-            if 0 < s.left[k] {
+    while k < t.count {
+        let end = deadline[k];
+        if s.slot < end {
+            if 0 < left[k] {
                 let mut pending: u32 = 0;
                 let mut i = 0;
-                while i < count {
-                    pending += pending_part(slot, end, t.jobs[i].deadline, s.left[i]);
+                while i < t.count {
+                    pending += pending_part(s.slot, end, deadline[i], left[i]);
                     i += 1;
                 }
-                if sheet::wide(end) <= sheet::wide(slot) + pending {
+                if sheet::wide(end) <= sheet::wide(s.slot) + pending {
                     return true;
                 }
             }
@@ -210,12 +219,12 @@ fn no_slack(t: Table, s: State) -> bool
 
 // What a job counts for in the work that comes up to a deadline: slots wanted × energy, where it is
 // released after the slot and its own deadline is up to that one.
-fn coming_part(slot: u16, end: u16, j: Job) -> u32
-    ensures { λ r. ⌜ (r ≡ cond (ltb slot (j .release) && leb (j .deadline) end) (j .wanted * j .energy) 0) × (r ≤ 65535 * 255) ⌝ }
+fn coming_part(slot: u16, end: u16, release: u16, deadline: u16, cost: u32) -> u32
+    ensures { λ r. ⌜ (r ≡ cond (ltb slot release && leb deadline end) cost 0) × (r ≤ cost) ⌝ }
 {
-    if slot < j.release {
-        if j.deadline <= end {
-            return sheet::cost(j.wanted, j.energy);
+    if slot < release {
+        if deadline <= end {
+            return cost;
         }
     }
     0
@@ -234,24 +243,31 @@ fn falls_short(totals: &[u32; 1441], level: u16, from: u16, to: u16, needed: u32
 // Slack energy is below the chosen job's energy: for some job that comes with a deadline below the
 // chosen job's, `own`, the level and the harvest up to there do not cover the work coming up to
 // there and this energy.
-fn needs_charge(t: Table, totals: &[u32; 1441], s: State, own: u16, energy: u8) -> bool
-    requires { ⌜ Bounded t (now totals) s ⌝ }
+fn needs_charge<'a>(
+    t: Table,
+    s: State,
+    release: &'a [u16; 64],
+    deadline: &'a [u16; 64],
+    cost: &'a [u32; 64],
+    totals: &'a [u32; 1441],
+    own: u16,
+    energy: u8,
+) -> bool
+    requires { ⌜ Bounded t (now totals) s × (now release ≡ columnsOf t .release) × (now deadline ≡ columnsOf t .deadline) × (now cost ≡ columnsOf t .cost) × SmallCosts (now cost) ⌝ }
     ensures { λ r. ⌜ r ≡ some (needsChargeBy t (now (totals .entry)) s own energy) (t .count) ⌝ }
 {
-    let count = t.count;
-    let slot = s.slot;
     let mut k = 0;
-    while k < count {
-        let end = t.jobs[k].deadline;
-        if slot < t.jobs[k].release {
+    while k < t.count {
+        let end = deadline[k];
+        if s.slot < release[k] {
             if end < own {
                 let mut coming: u32 = 0;
                 let mut i = 0;
-                while i < count {
-                    coming += coming_part(slot, end, t.jobs[i]);
+                while i < t.count {
+                    coming += coming_part(s.slot, end, release[i], deadline[i], cost[i]);
                     i += 1;
                 }
-                if falls_short(totals, s.level, slot, end, coming + energy as u32) {
+                if falls_short(totals, s.level, s.slot, end, coming + energy as u32) {
                     return true;
                 }
             }
@@ -262,52 +278,79 @@ fn needs_charge(t: Table, totals: &[u32; 1441], s: State, own: u16, energy: u8) 
 }
 
 // The charge at hand in the state's slot: its level and the slot's harvest.
-fn at_hand(harvest: &[u8], s: State) -> u32
-    requires { ⌜ s .slot < length (now harvest) ⌝ }
-    ensures { λ r. ⌜ (r ≡ atHand (now (harvest .entry)) s) × (r ≤ 65790) ⌝ }
+fn at_hand(harvest: &[u8], slot: u16, level: u16) -> u32
+    requires { ⌜ slot < length (now harvest) ⌝ }
+    ensures { λ r. ⌜ (r ≡ level + harvestAt (now (harvest .entry)) slot) × (r ≤ 65790) ⌝ }
 {
-    let at = s.slot as usize;
-    sheet::wide(s.level) + sheet::wide(sheet::counted(harvest[at]))
+    let at = slot as usize;
+    sheet::wide(level) + sheet::wide(sheet::counted(harvest[at]))
 }
 
 // Rules 2 to 6 for the chosen job k, whose deadline is `own`.
-fn rule_for(
+fn rule_for<'a>(
     t: Table,
-    harvest: &[u8],
-    totals: &[u32; 1441],
     s: State,
+    release: &'a [u16; 64],
+    deadline: &'a [u16; 64],
+    energy: &'a [u8; 64],
+    cost: &'a [u32; 64],
+    left: &'a [u16; 64],
+    harvest: &'a [u8],
+    totals: &'a [u32; 1441],
     k: usize,
     own: u16,
 ) -> Decision
-    requires { ⌜ InDay t (now harvest) (now totals) s × (k < t .count) × (own ≡ deadlineOf t k) ⌝ }
+    requires { ⌜ InDay t (now harvest) (now totals) s × Lent t s (now release) (now deadline) (now energy) (now cost) (now left) × (k < t .count) × (own ≡ deadlineOf t k) ⌝ }
     ensures { λ r. ⌜ decisionSays r ≡ ruleFor t (now (harvest .entry)) s k ⌝ }
 {
-    let energy = t.jobs[k].energy;
-    let charge = at_hand(harvest, s);
-    if charge < widened(energy) {
+    let price = energy[k];
+    let charge = at_hand(harvest, s.slot, s.level);
+    if charge < widened(price) {
         return Decision::Idle(IdleWhy::Empty);
     }
     if sheet::wide(t.capacity) < charge {
         return Decision::Busy(k, BusyWhy::Full);
     }
-    if no_slack(t, s) {
+    if no_slack(t, s, deadline, left) {
         return Decision::Busy(k, BusyWhy::NoSlack);
     }
-    if needs_charge(t, totals, s, own, energy) {
+    if needs_charge(t, s, release, deadline, cost, totals, own, price) {
         return Decision::Idle(IdleWhy::Saving);
     }
     Decision::Busy(k, BusyWhy::Free)
 }
 
 // What the slot does: the first of the six rules that applies.
-fn decide(t: Table, harvest: &[u8], totals: &[u32; 1441], s: State) -> Decision
-    requires { ⌜ InDay t (now harvest) (now totals) s ⌝ }
+fn decide<'a>(
+    t: Table,
+    s: State,
+    release: &'a [u16; 64],
+    deadline: &'a [u16; 64],
+    energy: &'a [u8; 64],
+    cost: &'a [u32; 64],
+    left: &'a [u16; 64],
+    harvest: &'a [u8],
+    totals: &'a [u32; 1441],
+) -> Decision
+    requires { ⌜ InDay t (now harvest) (now totals) s × Lent t s (now release) (now deadline) (now energy) (now cost) (now left) ⌝ }
     ensures { λ r. ⌜ decisionSays r ≡ decided t (now (harvest .entry)) s ⌝ }
 {
-    let choice = choose(t, s);
+    let choice = choose(t, s, release, deadline, left);
     match choice {
         Chosen::Nobody => Decision::Idle(IdleWhy::None),
-        Chosen::Job(k, own) => rule_for(t, harvest, totals, s, k, own),
+        Chosen::Job(k, own) => rule_for(
+            t,
+            s,
+            release,
+            deadline,
+            energy,
+            cost,
+            left,
+            harvest,
+            totals,
+            k,
+            own,
+        ),
     }
 }
 
@@ -329,30 +372,33 @@ fn rest(t: Table, harvest: &[u8], s: State) -> State
 {
     let mut next = s;
     next.slot = s.slot + 1;
-    next.level = cut(t.capacity, at_hand(harvest, s));
+    next.level = cut(t.capacity, at_hand(harvest, s.slot, s.level));
     next
 }
 
-// The state after a slot that was busy with job k, which wanted it and could be paid.
-fn spend(t: Table, harvest: &[u8], s: State, k: usize) -> State
-    requires { ⌜ (s .slot < length (now harvest)) × (s .slot < mostSlots) × (k < mostJobs) × (1 ≤ leftOf s k) × (jobOf t k .energy ≤ atHand (now harvest) s) ⌝ }
+// The state after a slot that was busy with job k, which wanted it and could be paid its price.
+fn spend(t: Table, harvest: &[u8], s: State, k: usize, price: u8) -> State
+    requires { ⌜ (s .slot < length (now harvest)) × (s .slot < mostSlots) × (k < mostJobs) × (1 ≤ leftOf s k) × (price ≤ atHand (now harvest) s) × (price ≡ jobOf t k .energy) ⌝ }
     ensures { λ r. ⌜ r ≡ stateBy t (now (harvest .entry)) s (busy 6 k) ⌝ }
 {
     let mut next = s;
     next.slot = s.slot + 1;
-    next.level = cut(t.capacity, at_hand(harvest, s) - widened(t.jobs[k].energy));
+    next.level = cut(
+        t.capacity,
+        at_hand(harvest, s.slot, s.level) - widened(price),
+    );
     next.left[k] = s.left[k] - 1;
     next
 }
 
 // The state after the slot, which did this.
-fn after(t: Table, harvest: &[u8], s: State, d: Decision) -> State
-    requires { ⌜ GoodTable t (now harvest) × (s .slot < t .slots) × (decisionSays d ≡ decided t (now harvest) s) ⌝ }
+fn after<'a>(t: Table, s: State, energy: &'a [u8; 64], harvest: &'a [u8], d: Decision) -> State
+    requires { ⌜ GoodTable t (now harvest) × (s .slot < t .slots) × (now energy ≡ columnsOf t .energy) × (decisionSays d ≡ decided t (now harvest) s) ⌝ }
     ensures { λ r. ⌜ r ≡ nextState t (now (harvest .entry)) s ⌝ }
 {
     match d {
         Decision::Idle(_) => rest(t, harvest, s),
-        Decision::Busy(k, _) => spend(t, harvest, s, k),
+        Decision::Busy(k, _) => spend(t, harvest, s, k, energy[k]),
     }
 }
 
@@ -417,10 +463,21 @@ pub fn step(t: Table, harvest: &[u8], s: State) -> StepResult
         };
     }
     let totals = sheet::totals(harvest);
-    let decision = decide(t, harvest, &totals, s);
+    let columns = sheet::by_columns(t);
+    let decision = decide(
+        t,
+        s,
+        &columns.release,
+        &columns.deadline,
+        &columns.energy,
+        &columns.cost,
+        &s.left,
+        harvest,
+        &totals,
+    );
     StepResult {
         answer: Stepped::Decided(decision),
-        state: after(t, harvest, s, decision),
+        state: after(t, s, &columns.energy, harvest, decision),
     }
 }
 
@@ -442,12 +499,23 @@ pub fn whole_run(t: Table, harvest: &[u8], plan: &mut [u8]) -> State
     ensures { λ r. ⌜ (r ≡ stateAt t (now (harvest .entry)) (t .slots)) × (now (plan .exit) ≡ planOf t (now (harvest .entry))) ⌝ }
 {
     let totals = sheet::totals(harvest);
+    let columns = sheet::by_columns(t);
     let mut s = first_state(t);
     let mut n = 0;
     while n < plan.len() {
-        let decision = decide(t, harvest, &totals, s);
+        let decision = decide(
+            t,
+            s,
+            &columns.release,
+            &columns.deadline,
+            &columns.energy,
+            &columns.cost,
+            &s.left,
+            harvest,
+            &totals,
+        );
         plan[n] = plan_byte(decision);
-        s = after(t, harvest, s, decision);
+        s = after(t, s, &columns.energy, harvest, decision);
         n += 1;
     }
     s
@@ -459,7 +527,8 @@ pub fn find_unfinished(t: Table, s: State) -> Unfinished
     requires { ⌜ t .count ≤ mostJobs ⌝ }
     ensures { λ r. ⌜ unfinishedSays r ≡ unfinished t s ⌝ }
 {
-    let choice = earliest_job(t, s, false);
+    let columns = sheet::by_columns(t);
+    let choice = earliest_job(t, s, &columns.release, &columns.deadline, &s.left, false);
     match choice {
         Chosen::Nobody => Unfinished::Nothing,
         Chosen::Job(k, _) => Unfinished::Job(k),

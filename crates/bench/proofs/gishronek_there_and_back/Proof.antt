@@ -1,15 +1,15 @@
 -- The writer is handed the table and the harvest that the reader yields, so what it promises of them is the answer.
 use Prim.Native.Nat.{ℕ}
-use mathlib.Core.Path.{_≡_, sym, ap, _∙_}
+use mathlib.Core.Path.{_≡_, ap, _∙_}
 use mathlib.Core.List.{List}
 use borrow.Author.Needs.{needs}
-use Rattle.sheet.specs.Sheet.{tableRead, harvestRead}
+use Rattle.sheet.specs.Sheet.{tableRead}
 use Rattle.sheet.specs.declared.Table.{Table}
 use Rattle.reader.specs.Promise.{harvestBehind}
-use Rattle.reader.proofs.Harvesting.{own-stretch}
 use Rattle.writer.specs.declared.Written.{Written}
 use Rattle.writer.specs.Promise.{Writes, writtenSays}
 use Rattle.bench.specs.Promise.{lengthOr0, ThereAndBack}
+use Rattle.bench.proofs.Yielded.{whole-stretch}
 use Rattle.bench.proofs.gishronek_there_and_back.Statement.{statement}
 use Rattle.bench.proofs.gishronek_there_and_back.Tie as tie
 
@@ -20,7 +20,7 @@ back : (s out : List ℕ) (t : Table) (harvest : List ℕ) (w : Written) (r : �
     → r ≡ lengthOr0 (writtenSays w)
     → ThereAndBack s out r after
 back s out t harvest w r after read stretch writes said =
-    let whole : harvest ≡ harvestRead s = stretch ∙ ap (λ (u : Table). harvestBehind s (u .count) (u .slots)) read ∙ own-stretch s in
+    let whole = whole-stretch s t harvest read stretch in
     record {
       answer = said ∙ ap lengthOr0 (rw (read, whole) at (writes .answer));
       buffer = rw (read, whole) at (writes .buffer);

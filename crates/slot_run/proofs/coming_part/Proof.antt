@@ -1,12 +1,8 @@
 -- Each return follows the tests that led to it.
-use borrow.Author.Needs.{needs}
 use native.Mathlib.Omega.{arith}
 use Rattle.sheet.proofs.Tests.{tests}
 use Rattle.slot_run.proofs.coming_part.Statement.{statement}
 use Rattle.slot_run.proofs.coming_part.Tie as tie
-
-cost-requires : tie.Need-cost-requires
-cost-requires c κs = search needs
 
 returns : tie.Need-returns
 returns c = (search tests, omega arith)
@@ -18,4 +14,4 @@ returns-3 : tie.Need-returns-3
 returns-3 c = (search tests, omega arith)
 
 pub coming-part-spec : {M : Type 1} → statement M
-coming-part-spec = tie.close (tie.spec cost-requires returns returns-2 returns-3)
+coming-part-spec = tie.close (tie.spec returns returns-2 returns-3)

@@ -22,7 +22,8 @@ rule-for-requires c κs =
     let chose = c .before .before .before in
     let start = chose .before .before in
     let is = c .before .choice .given .1 in (
-      start .pre,
+      start .pre .0,
+      start .pre .1,
       chosen-is _ _ _ (sym (chose .choose .ensures .0) ∙ ap chosenSays is) .below,
       subst (DeadlineHeld (start .args .t)) is (chose .choose .ensures .1),
     )

@@ -1,29 +1,32 @@
 -- The loop keeps: what is held is the choice among the jobs before k, with its own deadline.
-use Prim.Native.Nat.{_≤_, _-_}
-use mathlib.Core.Path.{_≡_, refl, sym, ap, _∙_, subst}
+use Prim.Native.Nat.{ℕ, _≤_, _-_}
+use mathlib.Core.Path.{_≡_, sym, ap, _∙_, subst}
+use mathlib.Core.List.{List}
 use mathlib.Core.Logic.{⊎-elim}
 use native.Mathlib.Omega.{arith}
+use lib.ListN.{getD}
+use Rattle.sheet.proofs.InColumns.{column-at}
 use Rattle.slot_run.specs.Choosing.{Choice, smaller, earliest, deadlineOf}
 use Rattle.slot_run.specs.Steps.{chosenSays, DeadlineHeld, passes}
-use Rattle.slot_run.proofs.Choosing.{earliest-none, earliest-passes, earliest-fails, beside-says, beside-holds}
+use Rattle.slot_run.proofs.Choosing.{earliest-none, earliest-passes, earliest-fails, passes-read, beside-says, beside-holds}
 use borrow.Author.Needs.{needs}
 use Rattle.slot_run.proofs.earliest_job.Statement.{statement}
 use Rattle.slot_run.proofs.earliest_job.Tie as tie
 
 abbrev Inv-loop : tie.InvT-loop
-Inv-loop only-ready t s count slot so-far₀ k₀ so-far k = (count ≡ t .count) × (slot ≡ s .slot) × (k ≤ count) × (chosenSays so-far ≡ earliest (passes only-ready t s) (deadlineOf t) k) × DeadlineHeld t so-far
+Inv-loop t s release deadline left only-ready so-far₀ k₀ so-far k = (k ≤ t .count) × (chosenSays so-far ≡ earliest (passes only-ready t s) (deadlineOf t) k) × DeadlineHeld t so-far
 
 abbrev μ-loop : tie.MeasureT-loop
-μ-loop only-ready t s count slot so-far₀ k₀ so-far k = count - k
+μ-loop t s release deadline left only-ready so-far₀ k₀ so-far k = t .count - k
 
 loop-holds : tie.Need-loop-holds Inv-loop μ-loop
-loop-holds c = (refl, refl, search needs, sym (earliest-none _ _), tt)
+loop-holds c = (search needs, sym (earliest-none _ _), tt)
 
-mul-deadline : tie.Need-mul-deadline Inv-loop μ-loop
-mul-deadline c = search needs
+mul-own : tie.Need-mul-own Inv-loop μ-loop
+mul-own c = search needs
 
-element-copy-out-deadline : tie.Need-element-copy-out-deadline Inv-loop μ-loop
-element-copy-out-deadline c = search needs
+element-copy-out-own : tie.Need-element-copy-out-own Inv-loop μ-loop
+element-copy-out-own c = search needs
 
 mul-passes-test : tie.Need-mul-passes-test Inv-loop μ-loop
 mul-passes-test c = search needs
@@ -51,39 +54,42 @@ loop-less c = search needs
 
 loop-again : tie.Need-loop-again Inv-loop μ-loop
 loop-again c =
-    let at-loop = c .before .before .before .before in
-    let t = at-loop .before .args .t1 in
-    let s = at-loop .before .args .t2 in
-    let only-ready = at-loop .before .args .only-ready in
+    let at-loop = c .before .before .before .before .before .before .before in
+    let start = at-loop .before in
+    let t = start .args .t in
+    let s = start .args .s in
+    let only-ready = start .args .only-ready in
     let k = at-loop .loop .k in
-    let said = at-loop .loop .inv .3 in
-    let held = at-loop .loop .inv .4 in
+    let said = at-loop .loop .inv .1 in
+    let held = at-loop .loop .inv .2 in
+    let own = column-at (λ j. j .deadline) t _ (start .pre .2) k (omega arith) in
+    let tested =
+    passes-read only-ready t s k _ _ _ _ (column-at (λ j. j .release) t _ (start .pre .1) k (omega arith)) own (ap (λ (l : List ℕ). getD l k 0) (start .pre .3))
+    (c .before .passes-test .ensures) in
     ⊎-elim
     (λ w.
     let same = w .2 ∙ w .1 .ensures in (
-      refl,
-      refl,
       search needs,
       ap chosenSays same
-          ∙ beside-says t (at-loop .loop .so-far) k (deadlineOf t k) held refl
+          ∙ beside-says t (at-loop .loop .so-far) k _ held own
           ∙ ap (λ (x : Choice). smaller (deadlineOf t) x k) said
-          ∙ sym (earliest-passes (passes only-ready t s) (deadlineOf t) k (sym (c .before .passes-test .ensures) ∙ w .0 .taken)),
-      subst (DeadlineHeld t) (sym same) (beside-holds t (at-loop .loop .so-far) k (deadlineOf t k) held refl),
+          ∙ sym (earliest-passes (passes only-ready t s) (deadlineOf t) k (sym tested ∙ w .0 .taken)),
+      subst (DeadlineHeld t) (sym same) (beside-holds t (at-loop .loop .so-far) k _ held own),
     ))
     (λ w. (
-      refl,
-      refl,
       search needs,
-      ap chosenSays (w .1) ∙ said ∙ sym (earliest-fails (passes only-ready t s) (deadlineOf t) k (sym (c .before .passes-test .ensures) ∙ w .0 .left)),
+      ap chosenSays (w .1) ∙ said ∙ sym (earliest-fails (passes only-ready t s) (deadlineOf t) k (sym tested ∙ w .0 .left)),
       subst (DeadlineHeld t) (sym (w .1)) held,
     ))
-    (c .if1 .came)
+    (c .if2 .came)
 
 returns : tie.Need-returns Inv-loop μ-loop
 returns c =
-    let at-loop = c .before in
-    let at-end : at-loop .loop .k ≡ at-loop .before .args .t1 .count = omega arith in
-    (at-loop .loop .inv .3 ∙ ap (earliest (passes (at-loop .before .args .only-ready) (at-loop .before .args .t1) (at-loop .before .args .t2)) (deadlineOf (at-loop .before .args .t1))) at-end, at-loop .loop .inv .4)
+    let at-loop = c .before .before in
+    let start = at-loop .before in
+    let t = start .args .t in
+    let at-end : at-loop .loop .k ≡ t .count = omega arith in
+    (at-loop .loop .inv .1 ∙ ap (earliest (passes (start .args .only-ready) t (start .args .s)) (deadlineOf t)) at-end, at-loop .loop .inv .2)
 
 pub earliest-job-spec : {M : Type 1} → statement M
 earliest-job-spec =
@@ -92,8 +98,8 @@ earliest-job-spec =
     Inv-loop
     μ-loop
     loop-holds
-    mul-deadline
-    element-copy-out-deadline
+    mul-own
+    element-copy-out-own
     mul-passes-test
     element-copy-out-passes-test
     mul-passes-test-2

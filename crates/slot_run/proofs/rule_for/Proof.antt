@@ -5,11 +5,8 @@ use borrow.Author.Needs.{needs}
 use Rattle.slot_run.proofs.rule_for.Statement.{statement}
 use Rattle.slot_run.proofs.rule_for.Tie as tie
 
-mul-energy : tie.Need-mul-energy
-mul-energy c = search needs
-
-element-copy-out-energy : tie.Need-element-copy-out-energy
-element-copy-out-energy c = search needs
+element-copy-out-price : tie.Need-element-copy-out-price
+element-copy-out-price c = search needs
 
 at-hand-requires : tie.Need-at-hand-requires
 at-hand-requires c κs = search needs
@@ -33,7 +30,10 @@ returns-3 : tie.Need-returns-3
 returns-3 c = search by-rule-4
 
 needs-charge-requires : tie.Need-needs-charge-requires
-needs-charge-requires c κs = search bounded
+needs-charge-requires c κs =
+    let start = c .before .before .before .before .before .before .before .before .before in
+    let lent = start .pre .1 in
+    (bounded _ _ _ _ (start .pre .0), lent .release-is, lent .deadline-is, lent .cost-is, lent .small-costs)
 
 returns-4 : tie.Need-returns-4
 returns-4 c = search by-rule-5
@@ -45,8 +45,7 @@ pub rule-for-spec : {M : Type 1} → statement M
 rule-for-spec =
     tie.close
     (tie.spec
-    mul-energy
-    element-copy-out-energy
+    element-copy-out-price
     at-hand-requires
     widened-requires
     returns

@@ -1,4 +1,5 @@
 -- The level and what is left are what the calls answered.
+
 use borrow.Author.Needs.{needs}
 use Rattle.slot_run.proofs.spend.Statement.{statement}
 use Rattle.slot_run.proofs.spend.Tie as tie
@@ -8,12 +9,6 @@ add-next c = search needs
 
 at-hand-requires : tie.Need-at-hand-requires
 at-hand-requires c κs = search needs
-
-mul-widened : tie.Need-mul-widened
-mul-widened c = search needs
-
-element-copy-out-widened : tie.Need-element-copy-out-widened
-element-copy-out-widened c = search needs
 
 widened-requires : tie.Need-widened-requires
 widened-requires c κs = search needs
@@ -48,8 +43,6 @@ spend-spec =
     (tie.spec
     add-next
     at-hand-requires
-    mul-widened
-    element-copy-out-widened
     widened-requires
     sub-cut
     cut-requires

@@ -1,83 +1,101 @@
 -- The loop keeps: the state is that of slot n, and the plan holds the bytes of the slots before n.
-use Prim.Native.Nat.{ℕ, _≤_, _<_, _+_, _-_}
-use mathlib.Core.Path.{_≡_, refl, sym, ap, ap₂, _∙_, subst}
-use mathlib.Core.List.{List}
+use Prim.Native.Nat.{_≤_, _<_, _-_}
+use mathlib.Core.Path.{_≡_, refl, sym, ap, _∙_}
 use native.Mathlib.Omega.{arith}
 use lib.ListN.{length, length-set}
 use Rattle.slot_run.specs.Steps.{InDay}
-use Rattle.sheet.proofs.Lists.{over, over-none, over-more, over-length, over-all}
+use Rattle.sheet.proofs.Lists.{over, over-none, over-more, over-all}
 use Rattle.slot_run.specs.declared.State.{State}
 use Rattle.slot_run.specs.Rules.{stateAt, planByte, decided, nextState, planOf}
 use Rattle.slot_run.proofs.RuleLaws.{small-byte}
 use Rattle.slot_run.proofs.Running.{state-first, state-next, state-slot, byteAt}
+use Rattle.slot_run.proofs.Lending.{columns-lent, energy-lent}
 use borrow.Author.Needs.{needs}
 use Rattle.slot_run.proofs.whole_run.Statement.{statement}
 use Rattle.slot_run.proofs.whole_run.Tie as tie
 
 abbrev Inv-loop : tie.InvT-loop
-Inv-loop t harvest plan₀ totals s₀ n₀ plan s n = (n ≤ length plan₀) × (s ≡ stateAt t harvest n) × (plan ≡ over (byteAt t harvest) plan₀ n) × (length plan ≡ length plan₀)
+Inv-loop t harvest plan₀ totals columns s₀ n₀ plan s n = (n ≤ length plan₀) × (s ≡ stateAt t harvest n) × (plan ≡ over (byteAt t harvest) plan₀ n) × (length plan ≡ length plan₀)
 
 abbrev μ-loop : tie.MeasureT-loop
-μ-loop t harvest plan₀ totals s₀ n₀ plan s n = length plan₀ - n
+μ-loop t harvest plan₀ totals columns s₀ n₀ plan s n = length plan₀ - n
 
 -- in the loop the state's slot is one of the day's
-in-day : (c : tie.After-totals2 Inv-loop μ-loop)
-    → let start = c .before .before .before .before .before .before .before .args in
-    InDay (start .t) (start .harvest .now) (c .before .before .before .before .totals .result) (c .before .before .loop .s)
+in-day : (c : tie.In-loop Inv-loop μ-loop)
+    → let at-loop = c .before in
+    let start = at-loop .before .before .before .before .before .before .args in
+    InDay (start .t) (start .harvest .now) (at-loop .before .before .before .totals .result) (at-loop .loop .s)
 in-day c =
-    let at-loop = c .before .before in
-    let start = at-loop .before .before .before .before .before in
+    let at-loop = c .before in
+    let made = at-loop .before .before .before in
+    let start = at-loop .before .before .before .before .before .before in
     let slot : at-loop .loop .s .slot ≡ at-loop .loop .n = ap (λ (x : State). x .slot) (at-loop .loop .inv .1) ∙ state-slot (start .args .t) (start .args .harvest .now) (at-loop .loop .n) in
     record {
       good = start .pre .0;
-      totals-are = at-loop .before .before .totals .ensures .0;
-      small = at-loop .before .before .totals .ensures .1;
+      totals-are = made .totals .ensures .0;
+      small = made .totals .ensures .1;
       in-day = omega arith;
     }
 
+-- and n is a place of the plan
+within : (c : tie.In-loop Inv-loop μ-loop) → c .before .loop .n < length (c .before .before .before .before .before .before .before .args .plan .now)
+within c = omega arith
+
 totals-requires : tie.Need-totals-requires Inv-loop μ-loop
 totals-requires c κs = search needs
+
+by-columns-requires : tie.Need-by-columns-requires Inv-loop μ-loop
+by-columns-requires c κs = c .before .before .before .pre .0 .few-jobs
 
 first-state-requires : tie.Need-first-state-requires Inv-loop μ-loop
 first-state-requires c κs = search needs
 
 loop-holds : tie.Need-loop-holds Inv-loop μ-loop
 loop-holds c =
-    let start = c .before .before .before .before .args in
+    let start = c .before .before .before .before .before .args in
     (search needs, c .first-state .ensures ∙ sym (state-first (start .t) (start .harvest .now)), over-none _ (start .plan .now), refl)
 
 decide-requires : tie.Need-decide-requires Inv-loop μ-loop
-decide-requires c κs = in-day c
+decide-requires c κs = (in-day (c .before .before .before .before .before .before .before .before), columns-lent _ _ _ (c .before .before .before .before .before .before .before .before .before .before .before .by-columns .ensures))
 
 plan-byte-requires : tie.Need-plan-byte-requires Inv-loop μ-loop
 plan-byte-requires c κs =
-    let start = c .before .before .before .before .before .before .before .before in
-    rw (c .decide .ensures) (small-byte (start .args .t) (start .args .harvest .now) (c .before .before .before .loop .s) (start .pre .0 .few-jobs))
+    let at-loop = c .before .before .before .before .before .before .before .before .before .before in
+    let start = at-loop .before .before .before .before .before .before in
+    rw (c .decide .ensures) (small-byte (start .args .t) (start .args .harvest .now) (at-loop .loop .s) (start .pre .0 .few-jobs))
 
 slice-write-plan : tie.Need-slice-write-plan Inv-loop μ-loop
 slice-write-plan c = search needs
 
 after-requires : tie.Need-after-requires Inv-loop μ-loop
 after-requires c κs =
-    let day = in-day (c .before .before) in
-    (day .good, day .in-day, c .before .decide .ensures)
+    let day = in-day (c .before .before .before .before .before .before .before .before .before .before .before .before) in
+    (day .good, day .in-day, energy-lent _ _ (c .before .before .before .before .before .before .before .before .before .before .before .before .before .before .before .by-columns .ensures), c .before .before .before .decide .ensures)
 
 add-n : tie.Need-add-n Inv-loop μ-loop
-add-n c = search needs
+add-n c =
+    let at-loop = c .before .before .before .before .before .before .before .before .before .before .before .before .before .before in
+    let start = at-loop .before .before .before .before .before .before in
+    let few = start .pre .0 .few-slots in
+    let long = start .pre .1 in
+    let below = within (c .before .before .before .before .before .before .before .before .before .before .before .before .before) in
+    omega arith
 
 loop-less : tie.Need-loop-less Inv-loop μ-loop
 loop-less c = search needs
 
 loop-again : tie.Need-loop-again Inv-loop μ-loop
 loop-again c =
-    let at-loop = c .before .before .before .before .before in
-    let start = at-loop .before .before .before .before .before .args in
+    let at-loop = c .before .before .before .before .before .before .before .before .before .before .before .before .before .before in
+    let start = at-loop .before .before .before .before .before .before .args in
     let n = at-loop .loop .n in
-    let said = c .before .before .decide .ensures in
-    let byte = c .before .plan-byte .ensures ∙ ap planByte said ∙ ap (λ (x : State). planByte (decided (start .t) (start .harvest .now) x)) (at-loop .loop .inv .1) in (
-      search needs,
+    let below = within (c .before .before .before .before .before .before .before .before .before .before .before .before .before) in
+    let wrote = c .before .before .before in
+    let said = wrote .before .decide .ensures in
+    let byte = wrote .plan-byte .ensures ∙ ap planByte said ∙ ap (λ (x : State). planByte (decided (start .t) (start .harvest .now) x)) (at-loop .loop .inv .1) in (
+      omega arith,
       c .after .ensures ∙ ap (nextState (start .t) (start .harvest .now)) (at-loop .loop .inv .1) ∙ sym (state-next (start .t) (start .harvest .now) n),
-      rw (byte, at-loop .loop .inv .2) (over-more (byteAt (start .t) (start .harvest .now)) (start .plan .now) n (search needs)),
+      rw (byte, at-loop .loop .inv .2) (over-more (byteAt (start .t) (start .harvest .now)) (start .plan .now) n below),
       simp length-set (at-loop .loop .inv .3),
     )
 
@@ -88,7 +106,7 @@ returns : tie.Need-returns Inv-loop μ-loop
 unfolding planOf
 returns c =
     let at-loop = c .before in
-    let start = at-loop .before .before .before .before .before in
+    let start = at-loop .before .before .before .before .before .before in
     let at-end : at-loop .loop .n ≡ start .args .t .slots = omega arith in (
       at-loop .loop .inv .1 ∙ ap (stateAt (start .args .t) (start .args .harvest .now)) at-end,
       at-loop .loop .inv .2
@@ -103,6 +121,7 @@ whole-run-spec =
     Inv-loop
     μ-loop
     totals-requires
+    by-columns-requires
     first-state-requires
     loop-holds
     decide-requires
