@@ -1,18 +1,20 @@
 -- Each rule, from what its tests showed; and what holds of any slot of a checked day.
-use Prim.Native.Nat.{ℕ, _<_, _≤_}
+use Prim.Native.Nat.{ℕ, min, _+_, _-_, _<_, _≤_}
 use mathlib.Core.Path.{_≡_, refl, sym, ap, _∙_, subst}
 use mathlib.Core.Bool.{true, false, _&&_}
 use mathlib.Core.Logic.{⊎-elim}
 use mathlib.Core.List.{List}
 use native.Mathlib.Omega.{arith}
 use lib.Dec.{ltb, leb}
+use lib.ListN.{getD, set}
 use borrow.Author.Tests.{lt-ltb, le-ltb, ltb-true, ltb-false}
+use Rattle.sheet.specs.Sums.{harvestAt}
 use Rattle.sheet.specs.Table.{mostJobs, jobOf}
 use Rattle.sheet.specs.declared.Table.{Table}
 use Rattle.slot_run.specs.declared.State.{State}
 use Rattle.slot_run.specs.Choosing.{Choice, nobody, job, ready, chosen, deadlineOf, leftOf}
 use Rattle.slot_run.specs.Slack.{slackTime, slackEnergy, zeroOrLess, isBelow}
-use Rattle.slot_run.specs.Rules.{Ruled, idle, busy, decisionSays, atHand, ruleFor, ruleOn, decided, planByte, idleByte}
+use Rattle.slot_run.specs.Rules.{Ruled, idle, busy, decisionSays, atHand, ruleFor, ruleOn, decided, nextState, planByte, idleByte}
 use Rattle.slot_run.specs.declared.BusyWhy.{BusyWhy}
 use Rattle.slot_run.specs.declared.BusyWhy.the-variants.{Full, NoSlack, Free}
 use Rattle.slot_run.specs.declared.IdleWhy.{IdleWhy}
@@ -146,3 +148,28 @@ small-byte t harvest s few = go (decided t harvest s) refl
     go : (d : Ruled) → decided t harvest s ≡ d → planByte (decided t harvest s) ≤ idleByte
     go (idle rule) e = rw e (omega arith)
     go (busy rule k) e = let b = busy-facts t harvest s rule k e in rw e (omega arith)
+
+-- ---- what a slot leaves, with the charge at hand and the jobs' slots left as the code reads them
+
+pub charge-read : (harvest : List ℕ) (s : State) (at charge : ℕ) → at ≡ s .slot → charge ≡ s .level + harvestAt harvest at → charge ≡ atHand harvest s
+charge-read harvest s at charge here e = e ∙ ap (λ (n : ℕ). s .level + harvestAt harvest n) here
+
+module _ (t : Table) (harvest : List ℕ) (s : State) (charge level : ℕ) (left : List ℕ) (charge-is : charge ≡ atHand harvest s) (left-is : left ≡ s .left) where
+  pub idle-leaves : (rule : ℕ) → decided t harvest s ≡ idle rule → level ≡ min (t .capacity) charge
+      → (level ≡ nextState t harvest s .level) × (left ≡ nextState t harvest s .left)
+  unfolding nextState
+  idle-leaves rule e l =
+      let whole : charge - 0 ≡ charge = omega arith in
+      (rw (e, ← charge-is, whole) l, rw e left-is)
+
+  pub busy-leaves : (rule k price : ℕ) → decided t harvest s ≡ busy rule k → price ≡ jobOf t k .energy → level ≡ min (t .capacity) (charge - price)
+      → (level ≡ nextState t harvest s .level) × (set left k (getD left k 0 - 1) ≡ nextState t harvest s .left)
+  unfolding nextState
+  busy-leaves rule k price e p l = (rw (e, ← charge-is, ← p) l, rw (e, left-is))
+
+-- the next state, by its parts
+pub next-by-parts : (t : Table) (harvest : List ℕ) (s : State) (level : ℕ) (left : List ℕ)
+    → (level ≡ nextState t harvest s .level) × (left ≡ nextState t harvest s .left)
+    → record { slot = s .slot + 1; level = level; left = left } ≡ nextState t harvest s
+unfolding nextState
+next-by-parts t harvest s level left e = rw (e .0, e .1)

@@ -231,13 +231,12 @@ fn coming_part(slot: u16, end: u16, release: u16, deadline: u16, cost: u32) -> u
 }
 
 // The level and the harvest of the slots from .. to - 1 are less than what is needed.
-fn falls_short(totals: &[u32; 1441], level: u16, from: u16, to: u16, needed: u32) -> bool
+fn falls_short(totals: &[u32; 1441], level: u16, from: usize, to: u16, needed: u32) -> bool
     requires { ⌜ (from ≤ mostSlots) × (to ≤ mostSlots) × (needed ≤ 2000000000) × SmallTotals (now totals) ⌝ }
     ensures { λ r. ⌜ r ≡ ltb (level + getD (now (totals .entry)) to 0) (needed + getD (now (totals .entry)) from 0) ⌝ }
 {
-    let start = from as usize;
     let end = to as usize;
-    sheet::wide(level) + totals[end] < needed + totals[start]
+    sheet::wide(level) + totals[end] < needed + totals[from]
 }
 
 // Slack energy is below the chosen job's energy: for some job that comes with a deadline below the
@@ -250,10 +249,11 @@ fn needs_charge<'a>(
     deadline: &'a [u16; 64],
     cost: &'a [u32; 64],
     totals: &'a [u32; 1441],
+    at: usize,
     own: u16,
     energy: u8,
 ) -> bool
-    requires { ⌜ Bounded t (now totals) s × (now release ≡ columnsOf t .release) × (now deadline ≡ columnsOf t .deadline) × (now cost ≡ columnsOf t .cost) × SmallCosts (now cost) ⌝ }
+    requires { ⌜ Bounded t (now totals) s × (at ≡ s .slot) × (now release ≡ columnsOf t .release) × (now deadline ≡ columnsOf t .deadline) × (now cost ≡ columnsOf t .cost) × SmallCosts (now cost) ⌝ }
     ensures { λ r. ⌜ r ≡ some (needsChargeBy t (now (totals .entry)) s own energy) (t .count) ⌝ }
 {
     let mut k = 0;
@@ -267,7 +267,7 @@ fn needs_charge<'a>(
                     coming += coming_part(s.slot, end, release[i], deadline[i], cost[i]);
                     i += 1;
                 }
-                if falls_short(totals, s.level, s.slot, end, coming + energy as u32) {
+                if falls_short(totals, s.level, at, end, coming + energy as u32) {
                     return true;
                 }
             }
@@ -277,12 +277,11 @@ fn needs_charge<'a>(
     false
 }
 
-// The charge at hand in the state's slot: its level and the slot's harvest.
-fn at_hand(harvest: &[u8], slot: u16, level: u16) -> u32
-    requires { ⌜ slot < length (now harvest) ⌝ }
-    ensures { λ r. ⌜ (r ≡ level + harvestAt (now (harvest .entry)) slot) × (r ≤ 65790) ⌝ }
+// The charge at hand in a slot: the level and the slot's harvest.
+fn at_hand(harvest: &[u8], at: usize, level: u16) -> u32
+    requires { ⌜ at < length (now harvest) ⌝ }
+    ensures { λ r. ⌜ (r ≡ level + harvestAt (now (harvest .entry)) at) × (r ≤ 65790) ⌝ }
 {
-    let at = slot as usize;
     sheet::wide(level) + sheet::wide(sheet::counted(harvest[at]))
 }
 
@@ -297,14 +296,15 @@ fn rule_for<'a>(
     left: &'a [u16; 64],
     harvest: &'a [u8],
     totals: &'a [u32; 1441],
+    at: usize,
     k: usize,
     own: u16,
 ) -> Decision
-    requires { ⌜ InDay t (now harvest) (now totals) s × Lent t s (now release) (now deadline) (now energy) (now cost) (now left) × (k < t .count) × (own ≡ deadlineOf t k) ⌝ }
+    requires { ⌜ InDay t (now harvest) (now totals) s × (at ≡ s .slot) × Lent t s (now release) (now deadline) (now energy) (now cost) (now left) × (k < t .count) × (own ≡ deadlineOf t k) ⌝ }
     ensures { λ r. ⌜ decisionSays r ≡ ruleFor t (now (harvest .entry)) s k ⌝ }
 {
     let price = energy[k];
-    let charge = at_hand(harvest, s.slot, s.level);
+    let charge = at_hand(harvest, at, s.level);
     if charge < widened(price) {
         return Decision::Idle(IdleWhy::Empty);
     }
@@ -314,13 +314,15 @@ fn rule_for<'a>(
     if no_slack(t, s, deadline, left) {
         return Decision::Busy(k, BusyWhy::NoSlack);
     }
-    if needs_charge(t, s, release, deadline, cost, totals, own, price) {
+    if needs_charge(t, s, release, deadline, cost, totals, at, own, price) {
         return Decision::Idle(IdleWhy::Saving);
     }
     Decision::Busy(k, BusyWhy::Free)
 }
 
-// What the slot does: the first of the six rules that applies.
+// What the slot does: the first of the six rules that applies. `at` is the state's slot once more, for
+// what is looked up by it: a slot that is itself an index in the loop over the day is compared with
+// releases and deadlines at an index's width, and the sums over the jobs take twice as long.
 fn decide<'a>(
     t: Table,
     s: State,
@@ -331,8 +333,9 @@ fn decide<'a>(
     left: &'a [u16; 64],
     harvest: &'a [u8],
     totals: &'a [u32; 1441],
+    at: usize,
 ) -> Decision
-    requires { ⌜ InDay t (now harvest) (now totals) s × Lent t s (now release) (now deadline) (now energy) (now cost) (now left) ⌝ }
+    requires { ⌜ InDay t (now harvest) (now totals) s × (at ≡ s .slot) × Lent t s (now release) (now deadline) (now energy) (now cost) (now left) ⌝ }
     ensures { λ r. ⌜ decisionSays r ≡ decided t (now (harvest .entry)) s ⌝ }
 {
     let choice = choose(t, s, release, deadline, left);
@@ -348,6 +351,7 @@ fn decide<'a>(
             left,
             harvest,
             totals,
+            at,
             k,
             own,
         ),
@@ -365,40 +369,28 @@ fn cut(capacity: u16, level: u32) -> u16
     }
 }
 
-// The state after an idle slot.
-fn rest(t: Table, harvest: &[u8], s: State) -> State
-    requires { ⌜ (s .slot < length (now harvest)) × (s .slot < mostSlots) ⌝ }
-    ensures { λ r. ⌜ r ≡ stateBy t (now (harvest .entry)) s (idle 1) ⌝ }
-{
-    let mut next = s;
-    next.slot = s.slot + 1;
-    next.level = cut(t.capacity, at_hand(harvest, s.slot, s.level));
-    next
-}
-
-// The state after a slot that was busy with job k, which wanted it and could be paid its price.
-fn spend(t: Table, harvest: &[u8], s: State, k: usize, price: u8) -> State
-    requires { ⌜ (s .slot < length (now harvest)) × (s .slot < mostSlots) × (k < mostJobs) × (1 ≤ leftOf s k) × (price ≤ atHand (now harvest) s) × (price ≡ jobOf t k .energy) ⌝ }
-    ensures { λ r. ⌜ r ≡ stateBy t (now (harvest .entry)) s (busy 6 k) ⌝ }
-{
-    let mut next = s;
-    next.slot = s.slot + 1;
-    next.level = cut(
-        t.capacity,
-        at_hand(harvest, s.slot, s.level) - widened(price),
-    );
-    next.left[k] = s.left[k] - 1;
-    next
-}
-
-// The state after the slot, which did this.
-fn after<'a>(t: Table, s: State, energy: &'a [u8; 64], harvest: &'a [u8], d: Decision) -> State
-    requires { ⌜ GoodTable t (now harvest) × (s .slot < t .slots) × (now energy ≡ columnsOf t .energy) × (decisionSays d ≡ decided t (now harvest) s) ⌝ }
-    ensures { λ r. ⌜ r ≡ nextState t (now (harvest .entry)) s ⌝ }
+// What a slot that did this leaves: of the jobs' slots in `left`, and the level, which it answers.
+fn after<'a>(
+    t: Table,
+    s: State,
+    energy: &'a [u8; 64],
+    harvest: &'a [u8],
+    at: usize,
+    d: Decision,
+    left: &mut [u16; 64],
+) -> u16
+    requires { ⌜ GoodTable t (now harvest) × (s .slot < t .slots) × (at ≡ s .slot) × (now energy ≡ columnsOf t .energy) × (decisionSays d ≡ decided t (now harvest) s) × (now left ≡ s .left) ⌝ }
+    ensures { λ r. ⌜ (r ≡ nextState t (now (harvest .entry)) s .level) × (now (left .exit) ≡ nextState t (now (harvest .entry)) s .left) ⌝ }
 {
     match d {
-        Decision::Idle(_) => rest(t, harvest, s),
-        Decision::Busy(k, _) => spend(t, harvest, s, k, energy[k]),
+        Decision::Idle(_) => cut(t.capacity, at_hand(harvest, at, s.level)),
+        Decision::Busy(k, _) => {
+            left[k] = left[k] - 1;
+            cut(
+                t.capacity,
+                at_hand(harvest, at, s.level) - widened(energy[k]),
+            )
+        }
     }
 }
 
@@ -464,6 +456,7 @@ pub fn step(t: Table, harvest: &[u8], s: State) -> StepResult
     }
     let totals = sheet::totals(harvest);
     let columns = sheet::by_columns(t);
+    let at = s.slot as usize;
     let decision = decide(
         t,
         s,
@@ -474,10 +467,14 @@ pub fn step(t: Table, harvest: &[u8], s: State) -> StepResult
         &s.left,
         harvest,
         &totals,
+        at,
     );
+    let mut next = s;
+    next.level = after(t, s, &columns.energy, harvest, at, decision, &mut next.left);
+    next.slot = s.slot + 1;
     StepResult {
         answer: Stepped::Decided(decision),
-        state: after(t, s, &columns.energy, harvest, decision),
+        state: next,
     }
 }
 
@@ -513,9 +510,11 @@ pub fn whole_run(t: Table, harvest: &[u8], plan: &mut [u8]) -> State
             &s.left,
             harvest,
             &totals,
+            n,
         );
         plan[n] = plan_byte(decision);
-        s = after(t, s, &columns.energy, harvest, decision);
+        s.level = after(t, s, &columns.energy, harvest, n, decision, &mut s.left);
+        s.slot = s.slot + 1;
         n += 1;
     }
     s

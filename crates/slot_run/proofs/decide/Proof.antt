@@ -24,6 +24,7 @@ rule-for-requires c κs =
     let is = c .before .choice .given .1 in (
       start .pre .0,
       start .pre .1,
+      start .pre .2,
       chosen-is _ _ _ (sym (chose .choose .ensures .0) ∙ ap chosenSays is) .below,
       subst (DeadlineHeld (start .args .t)) is (chose .choose .ensures .1),
     )

@@ -19,16 +19,16 @@ use Rattle.slot_run.proofs.needs_charge.Statement.{statement}
 use Rattle.slot_run.proofs.needs_charge.Tie as tie
 
 abbrev Inv-loop2 : tie.InvT-loop2
-Inv-loop2 t s release deadline cost totals own energy k end coming₀ i₀ coming i = (i ≤ t .count) × (coming ≡ total (comingPart t s end) i) × (coming ≤ mostCost * i)
+Inv-loop2 t s release deadline cost totals at own energy k end coming₀ i₀ coming i = (i ≤ t .count) × (coming ≡ total (comingPart t s end) i) × (coming ≤ mostCost * i)
 
 abbrev μ-loop2 : tie.MeasureT-loop2
-μ-loop2 t s release deadline cost totals own energy k end coming₀ i₀ coming i = t .count - i
+μ-loop2 t s release deadline cost totals at own energy k end coming₀ i₀ coming i = t .count - i
 
 abbrev Inv-loop : tie.InvT-loop
-Inv-loop t s release deadline cost totals own energy k₀ k = (k ≤ t .count) × (some (needsChargeBy t totals s own energy) k ≡ false)
+Inv-loop t s release deadline cost totals at own energy k₀ k = (k ≤ t .count) × (some (needsChargeBy t totals s own energy) k ≡ false)
 
 abbrev μ-loop : tie.MeasureT-loop
-μ-loop t s release deadline cost totals own energy k₀ k = t .count - k
+μ-loop t s release deadline cost totals at own energy k₀ k = t .count - k
 
 loop-holds : tie.Need-loop-holds Inv-loop2 μ-loop2 Inv-loop μ-loop
 loop-holds c = (search needs, some-none _)
@@ -75,7 +75,7 @@ coming-part-requires c κs = search needs
 add-coming : tie.Need-add-coming Inv-loop2 μ-loop2 Inv-loop μ-loop
 add-coming c =
     let inner = c .before .before .before .before .before .before in
-    let small = inner .before .before .before .before .before .before .before .before .before .pre .4 (inner .loop2 .i) in
+    let small = inner .before .before .before .before .before .before .before .before .before .pre .5 (inner .loop2 .i) in
     let few = inner .before .before .before .before .before .before .before .before .before .pre .0 .few in
     omega arith
 
@@ -95,10 +95,10 @@ loop2-again c =
     let end = getD (start .args .deadline .now) (at-loop .loop .k) 0 in
     let i = inner .loop2 .i in
     let here : i < t .count = omega arith in
-    let small = start .pre .4 i in
+    let small = start .pre .5 i in
     let part =
-    coming-read t s end i _ _ _ _ (column-at (λ j. j .release) t _ (start .pre .1) i here) (column-at (λ j. j .deadline) t _ (start .pre .2) i here)
-    (column-at costOf t _ (start .pre .3) i here) (c .coming-part .ensures .0) in
+    coming-read t s end i _ _ _ _ (column-at (λ j. j .release) t _ (start .pre .2) i here) (column-at (λ j. j .deadline) t _ (start .pre .3) i here)
+    (column-at costOf t _ (start .pre .4) i here) (c .coming-part .ensures .0) in
     (search needs, ap₂ _+_ (inner .loop2 .inv .1) part ∙ sym (total-more (comingPart t s end) i), omega arith)
 
 add-falls-short : tie.Need-add-falls-short Inv-loop2 μ-loop2 Inv-loop μ-loop
@@ -112,9 +112,11 @@ falls-short-requires c κs =
     let k = at-loop .loop .k in
     let here : k < start .args .t .count = c .before .before .before .before .before .before .before .before .if1 .taken in
     let few = bounded .few in
-    let end-is = column-at (λ j. j .deadline) (start .args .t) _ (start .pre .2) k here in
+    let slot-in = bounded .slot-in in
+    let at-is = start .pre .1 in
+    let end-is = column-at (λ j. j .deadline) (start .args .t) _ (start .pre .3) k here in
     let end-in = bounded .ends k here in
-    (bounded .slot-in, omega arith, omega arith, bounded .small)
+    (omega arith, omega arith, omega arith, bounded .small)
 
 returns : tie.Need-returns Inv-loop2 μ-loop2 Inv-loop μ-loop
 unfolding coming
@@ -129,13 +131,14 @@ returns c =
     let own = start .args .own in
     let energy = start .args .energy in
     let end = getD (start .args .deadline .now) k 0 in
+    let begun : getD totals (start .args .at) 0 ≡ getD totals (s .slot) 0 = ap (λ (n : ℕ). getD totals n 0) (start .pre .1) in
     let here : k < t .count = c .before .before .before .before .before .before .before .before .before .before .if1 .taken in
-    let end-is = column-at (λ j. j .deadline) t _ (start .pre .2) k here in
-    let release-is = column-at (λ j. j .release) t _ (start .pre .1) k here in
+    let end-is = column-at (λ j. j .deadline) t _ (start .pre .3) k here in
+    let release-is = column-at (λ j. j .release) t _ (start .pre .2) k here in
     let at-end : inner .loop2 .i ≡ t .count = omega arith in
     let sum : inner .loop2 .coming ≡ coming t s (deadlineOf t k) = inner .loop2 .inv .1 ∙ ap (total (comingPart t s _)) at-end ∙ ap (coming t s) end-is in
     let read : getD totals end 0 ≡ getD totals (deadlineOf t k) 0 = ap (λ (n : ℕ). getD totals n 0) end-is in
-    let short : s .level + getD totals end 0 < inner .loop2 .coming + energy + getD totals (s .slot) 0 = ltb-true _ _ (sym (c .before .falls-short .ensures) ∙ c .if5 .taken) in
+    let short : s .level + getD totals end 0 < inner .loop2 .coming + energy + getD totals (start .args .at) 0 = ltb-true _ _ (sym (c .before .falls-short .ensures) ∙ c .if5 .taken) in
     sym
     (some-here (needsChargeBy t totals s own energy) (t .count) k here
     (needs-yes t totals s own energy k (omega arith) (omega arith) (omega arith)))
@@ -158,9 +161,10 @@ loop-again c =
     let own = start .args .own in
     let energy = start .args .energy in
     let end = getD (start .args .deadline .now) k 0 in
+    let begun : getD totals (start .args .at) 0 ≡ getD totals (s .slot) 0 = ap (λ (n : ℕ). getD totals n 0) (start .pre .1) in
     let here : k < t .count = c .before .before .before .before .if1 .taken in
-    let end-is = column-at (λ j. j .deadline) t _ (start .pre .2) k here in
-    let release-is = column-at (λ j. j .release) t _ (start .pre .1) k here in
+    let end-is = column-at (λ j. j .deadline) t _ (start .pre .3) k here in
+    let release-is = column-at (λ j. j .release) t _ (start .pre .2) k here in
     let read : getD totals end 0 ≡ getD totals (deadlineOf t k) 0 = ap (λ (n : ℕ). getD totals n 0) end-is in (
       search needs,
       some-clear (needsChargeBy t totals s own energy) k (at-loop .loop .inv .1)
@@ -168,7 +172,7 @@ loop-again c =
           (λ w.
           let at-end : w .2 .i ≡ t .count = omega arith in
           let sum : w .2 .coming ≡ coming t s (deadlineOf t k) = w .2 .inv .1 ∙ ap (total (comingPart t s _)) at-end ∙ ap (coming t s) end-is in
-          let enough : w .2 .coming + energy + getD totals (s .slot) 0 ≤ s .level + getD totals end 0 = ltb-false _ _ (sym (w .5 .ensures) ∙ w .6 .left) in
+          let enough : w .2 .coming + energy + getD totals (start .args .at) 0 ≤ s .level + getD totals end 0 = ltb-false _ _ (sym (w .5 .ensures) ∙ w .6 .left) in
           needs-not t totals s own energy k (omega arith))
           (⊎-elim
           (λ w. needs-later t totals s own energy k (omega (arith, w .1 .left)))

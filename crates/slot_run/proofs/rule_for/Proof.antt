@@ -32,8 +32,8 @@ returns-3 c = search by-rule-4
 needs-charge-requires : tie.Need-needs-charge-requires
 needs-charge-requires c κs =
     let start = c .before .before .before .before .before .before .before .before .before in
-    let lent = start .pre .1 in
-    (bounded _ _ _ _ (start .pre .0), lent .release-is, lent .deadline-is, lent .cost-is, lent .small-costs)
+    let lent = start .pre .2 in
+    (bounded _ _ _ _ (start .pre .0), start .pre .1, lent .release-is, lent .deadline-is, lent .cost-is, lent .small-costs)
 
 returns-4 : tie.Need-returns-4
 returns-4 c = search by-rule-5
