@@ -30,11 +30,7 @@ energyDemand t from to = totalOf (λ k. within from to (jobOf t k)) (λ k. jobOf
 unfoldable pub energySupply : Table → List ℕ → ℕ → ℕ → ℕ
 energySupply t harvest from to = t .capacity + harvestOf harvest from to
 
--- the two kinds, by the numbers that the paper gives a claim's: 0 (time) and 1 (energy)
-abbrev pub kindNumber : Kind → ℕ
-kindNumber Time = 0
-kindNumber Energy = 1
-
+-- the two kinds of demand, each with its supply
 abbrev pub demandOf : Kind → Table → ℕ → ℕ → ℕ
 demandOf Time t from to = timeDemand t from to
 demandOf Energy t from to = energyDemand t from to
