@@ -13,7 +13,9 @@ use Rattle.sheet.specs.Sheet.{sheetSays, slotsIn, tableIn, harvestIn}
 use Rattle.sheet.specs.declared.Refusal.{Refusal}
 use Rattle.sheet.specs.declared.Refusal.the-variants.{Short, Mark, Counts, Layout, Window, Work}
 use Rattle.sheet.proofs.Theorems.{sheet-accepted-exactly}
-use Rattle.demand.specs.Search.{Found, interval, nothing, smallestEnd, searchedSays}
+use Rattle.demand.specs.Demand.{kindNumber}
+use Rattle.demand.specs.declared.Kind.{Kind}
+use Rattle.demand.specs.Search.{Found, interval, nothing, overloadSays, foundSays, smallestEnd, searchedSays}
 use Rattle.demand.specs.declared.Overload.{Overload}
 use Rattle.demand.specs.declared.Searched.{Searched}
 use Rattle.demand.specs.declared.Searched.the-variants as Searched
@@ -52,10 +54,15 @@ plan-refused a r e = rw e (none-planned r)
 
 -- ---- intervals
 
-pub search-overloaded : (a : Searched) (o : Overload) (n : ℕ) → a ≡ Searched.Overloaded o → n ≡ intervalNumber o → n ≡ foundNumber (searchedSays a)
+pub search-overloaded : (a : Searched) (o : Overload) (n : ℕ) → a ≡ Searched.Overloaded o → n ≡ intervalNumber (overloadSays o) → n ≡ foundNumber (searchedSays a)
+unfolding foundSays
 search-overloaded a o n e h = rw e h
 
-pub plan-overloaded : (a : Planned) (o : Overload) (n : ℕ) → a ≡ Planned.Overloaded o → n ≡ intervalNumber o → n ≡ planNumber (plannedSays a)
+pub search-clear : (a : Searched) → a ≡ Searched.Clear → 0 ≡ foundNumber (searchedSays a)
+unfolding foundSays
+search-clear a e = rw e
+
+pub plan-overloaded : (a : Planned) (o : Overload) (n : ℕ) → a ≡ Planned.Overloaded o → n ≡ intervalNumber (overloadSays o) → n ≡ planNumber (plannedSays a)
 plan-overloaded a o n e h = rw e h
 
 -- ---- an undecided day
@@ -91,3 +98,8 @@ undecided-few s plan r after plans k told =
     let left = left-over (smallestEnd t (harvestIn s) (t .slots)) (unfinished t end) k (same-verdict _ _ (then .1)) in
     let below = chosen-passes _ _ (t .count) k left .below in
     omega arith
+
+-- ---- kinds
+
+pub kind-told : (kind told : Kind) (n : ℕ) → kind ≡ told → n ≡ kindNumber told + 1 → n ≡ kindNumber kind + 1
+kind-told kind told n e h = rw e h

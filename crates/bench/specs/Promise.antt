@@ -6,10 +6,7 @@ use Rattle.sheet.specs.Paper.{Paper, gives, refuses, refusesAt, whereGiven}
 use Rattle.sheet.specs.Table.{tableSays}
 use Rattle.sheet.specs.declared.Table.{Table}
 use Rattle.sheet.specs.Sheet.{tableRead, harvestRead, writeSays, bufferWritten}
-use Rattle.demand.specs.Search.{Found, interval, nothing, searchOf}
-use Rattle.demand.specs.declared.Kind.{Kind}
-use Rattle.demand.specs.declared.Kind.the-variants.{Time, Energy}
-use Rattle.demand.specs.declared.Overload.{Overload}
+use Rattle.demand.specs.Search.{Interval, Answer, overloaded-is, none-is, searchOf}
 use Rattle.slot_run.specs.Promise.{noState, stateAfter}
 use Rattle.slot_run.specs.Rules.{firstState}
 use Rattle.slot_run.specs.declared.State.{State}
@@ -30,22 +27,18 @@ pub record ThereAndBack (s out : List ℕ) (r : ℕ) (after : List ℕ) : Type 0
 
 -- ---- search
 
-abbrev pub kindPart : Kind → ℕ
-kindPart Time = 1
-kindPart Energy = 2
-
 -- an interval's kind, start and end in one number, which is not 0
-abbrev pub intervalNumber : Overload → ℕ
-intervalNumber o = kindPart (o .kind) + 4 * o .from + 262144 * o .to
+abbrev pub intervalNumber : Interval → ℕ
+intervalNumber i = i .kind + 1 + 4 * i .from + 262144 * i .to
 
 -- the number of every refusal: above each interval's
 abbrev pub refusedNumber : ℕ
 refusedNumber = 1099511627776
 
 -- an interval that is found; 0 where there is none
-abbrev pub foundNumber : Paper Found → ℕ
-foundNumber (gives (interval o)) = intervalNumber o
-foundNumber (gives nothing) = 0
+abbrev pub foundNumber : Paper Answer → ℕ
+foundNumber (gives (overloaded-is i)) = intervalNumber i
+foundNumber (gives none-is) = 0
 foundNumber (refuses n) = refusedNumber
 foundNumber (refusesAt n place) = refusedNumber
 
@@ -61,7 +54,7 @@ undecidedNumber = 2199023255552
 
 -- a verdict as one number: 0 where the day is met
 abbrev pub planNumber : Paper Verdict → ℕ
-planNumber (gives (overloaded o)) = intervalNumber o
+planNumber (gives (overloaded i)) = intervalNumber i
 planNumber (gives met) = 0
 planNumber (gives (undecided k)) = undecidedNumber + k
 planNumber (refuses n) = refusedNumber

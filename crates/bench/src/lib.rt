@@ -6,12 +6,13 @@ use demand::Searched;
 use planner::Planned;
 use writer::Written;
 ghost use mathlib.Core.Path.{_≡_};
-ghost use Prim.Native.Nat.{ℕ, _<_, _≤_};
+ghost use Prim.Native.Nat.{ℕ, _+_, _<_, _≤_};
 ghost use Rattle.sheet.specs.Table.{mostJobs};
-ghost use Rattle.demand.specs.Search.{searchedSays};
+ghost use Rattle.demand.specs.Demand.{kindNumber};
+ghost use Rattle.demand.specs.Search.{searchedSays, overloadSays};
 ghost use Rattle.planner.specs.Promise.{plannedSays};
 ghost use Rattle.writer.specs.Promise.{writtenSays};
-ghost use Rattle.bench.specs.Promise.{lengthOr0, kindPart, intervalNumber, foundNumber, planNumber, ThereAndBack, Searches, Plans, FirstSteps};
+ghost use Rattle.bench.specs.Promise.{lengthOr0, intervalNumber, foundNumber, planNumber, ThereAndBack, Searches, Plans, FirstSteps};
 
 // The numbers beside an interval's: a refusal's, and an undecided day's with its job 0.
 const REFUSED: u64 = 1 << 40;
@@ -44,7 +45,7 @@ pub extern "C" fn gishronek_there_and_back(bytes: &[u8], out: &mut [u8]) -> u64
 
 // 1 for time, 2 for energy.
 fn kind_part(kind: Kind) -> u64
-    ensures { λ r. ⌜ (r ≡ kindPart kind) × (r ≤ 2) ⌝ }
+    ensures { λ r. ⌜ (r ≡ kindNumber kind + 1) × (r ≤ 2) ⌝ }
 {
     match kind {
         Kind::Time => 1,
@@ -54,7 +55,7 @@ fn kind_part(kind: Kind) -> u64
 
 // An overloaded interval as one number, never 0: its kind, its start and its end.
 fn interval_number(o: Overload) -> u64
-    ensures { λ r. ⌜ r ≡ intervalNumber o ⌝ }
+    ensures { λ r. ⌜ r ≡ intervalNumber (overloadSays o) ⌝ }
 {
     let kind = o.kind;
     kind_part(kind) + 4 * (o.from as u64) + 262144 * (o.to as u64)

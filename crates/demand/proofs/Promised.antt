@@ -10,13 +10,13 @@ use Rattle.sheet.specs.declared.Outcome.{Outcome}
 use Rattle.sheet.specs.declared.Outcome.the-variants.{Accepted, Refused}
 use Rattle.sheet.specs.declared.Table.{Table}
 use Rattle.sheet.proofs.Order.{says-gives, refusal-stays}
-use Rattle.demand.specs.Search.{Found, smallestEnd, searchOf}
+use Rattle.demand.specs.Search.{Found, foundSays, smallestEnd, searchOf}
 
 module _ (t : Table) (harvest : List ℕ) where
   pub search-refused : (o : Outcome) (r : Refusal) → o ≡ Refused r → outcomeSays o ≡ tableSays t harvest → refusalSays r ≡ searchOf t harvest
   unfolding searchOf
   search-refused o r told said = let e : tableSays t harvest ≡ refusalSays r = sym said ∙ ap outcomeSays told in rw e (sym (refusal-stays r _))
 
-  pub search-gives : (o : Outcome) (x : Found) → o ≡ Accepted → outcomeSays o ≡ tableSays t harvest → smallestEnd t harvest (t .slots) ≡ x → gives x ≡ searchOf t harvest
+  pub search-gives : (o : Outcome) (x : Found) → o ≡ Accepted → outcomeSays o ≡ tableSays t harvest → smallestEnd t harvest (t .slots) ≡ x → gives (foundSays x) ≡ searchOf t harvest
   unfolding searchOf
   search-gives o x told said e = rw (says-gives o _ told said, e)

@@ -10,14 +10,15 @@ use native.Mathlib.Omega.{arith}
 use lib.Dec.{eqb}
 use Rattle.sheet.specs.Paper.{Paper, Check, gives, refuses, refusesAt, _else_}
 use Rattle.sheet.specs.Table.{jobOf, tableSays}
+use Rattle.sheet.proofs.Order.{else-gave}
 use Rattle.sheet.proofs.Theorems.{table-accepted-exactly}
 use Rattle.sheet.specs.WellFormed.{GoodTable}
 use Rattle.sheet.specs.declared.Refusal.the-variants.{Short, Mark, Counts, Layout, Window, Work}
 use Rattle.sheet.specs.declared.Table.{Table}
-use Rattle.demand.specs.Demand.{demandOf, supplyOf, Overloaded}
-use Rattle.demand.specs.Search.{Found, interval, nothing, searchedSays, intervalOf, isRelease, isDeadline, foundAt, smallestEnd, searchOf}
+use Rattle.demand.specs.Demand.{kindNumber, demandOf, supplyOf, Overloaded}
+use Rattle.demand.specs.Search.{Found, interval, nothing, Interval, overloadSays, Answer, overloaded-is, none-is, foundSays, searchedSays, intervalOf, isRelease, isDeadline, foundAt, smallestEnd, searchOf}
 use Rattle.demand.specs.declared.Kind.{Kind}
-use Rattle.demand.specs.declared.Kind.the-variants.{Time}
+use Rattle.demand.specs.declared.Kind.the-variants.{Time, Energy}
 use Rattle.demand.specs.declared.Overload.{Overload}
 use Rattle.demand.specs.declared.Searched.{Searched}
 use Rattle.demand.specs.declared.Searched.the-variants as Searched
@@ -127,16 +128,40 @@ module _ (t : Table) (harvest : List ℕ) where
 
 -- ---- the same of the answers that the promise allows
 
-given-after : (a : Check) (b x : Found) → a else gives b ≡ gives x → (a ≡ gives tt) × (b ≡ x)
-given-after (gives u) b x e = (refl, cc)
-given-after (refuses n) b x e = (cc, cc)
-given-after (refusesAt n k) b x e = (cc, cc)
+kindMeant : ℕ → Kind
+kindMeant n = cond (eqb n 0) Time Energy
 
-given : (t : Table) (harvest : List ℕ) (x : Found) → gives x ≡ searchOf t harvest → GoodTable t harvest × (smallestEnd t harvest (t .slots) ≡ x)
+kind-back : (k : Kind) → kindMeant (kindNumber k) ≡ k
+unfolding kindMeant
+kind-back Time = refl
+kind-back Energy = refl
+
+-- the interval that its numbers stand for
+pub overloadMeant : Interval → Overload
+overloadMeant i = record { kind = kindMeant (i .kind); from = i .from; to = i .to; demand = i .demand; supply = i .supply }
+
+pub overload-back : (o : Overload) → overloadMeant (overloadSays o) ≡ o
+unfolding overloadMeant
+overload-back o = λ i. record { kind = kind-back (o .kind) i; from = o .from; to = o .to; demand = o .demand; supply = o .supply }
+
+foundMeant : Answer → Found
+foundMeant (overloaded-is i) = interval (overloadMeant i)
+foundMeant none-is = nothing
+
+found-back : (x : Found) → foundMeant (foundSays x) ≡ x
+unfolding foundMeant foundSays
+found-back (interval o) = ap interval (overload-back o)
+found-back nothing = refl
+
+-- two findings that the paper writes alike are the same
+pub found-one : (x y : Found) → foundSays x ≡ foundSays y → x ≡ y
+found-one x y e = sym (found-back x) ∙ ap foundMeant e ∙ found-back y
+
+given : (t : Table) (harvest : List ℕ) (x : Found) → gives (foundSays x) ≡ searchOf t harvest → GoodTable t harvest × (smallestEnd t harvest (t .slots) ≡ x)
 unfolding searchOf
 given t harvest x e =
-    let both = given-after (tableSays t harvest) (smallestEnd t harvest (t .slots)) x (sym e) in
-    (table-accepted-exactly t harvest .0 (both .0), both .1)
+    let both = else-gave (tableSays t harvest) (foundSays (smallestEnd t harvest (t .slots))) (foundSays x) (sym e) in
+    (table-accepted-exactly t harvest .0 (both .0), found-one (smallestEnd t harvest (t .slots)) x (both .1))
 
 -- an interval is answered of a well-formed table and harvest only, and it is the overloaded one that comes first
 pub overload-answered : (t : Table) (harvest : List ℕ) (o : Overload) → searchedSays (Searched.Overloaded o) ≡ searchOf t harvest
@@ -157,21 +182,21 @@ byNumber n =
     (cond (eqb n 2) (Searched.Refused Mark)
     (cond (eqb n 3) (Searched.Refused Counts) (Searched.Refused Layout)))
 
-searchedMeant : Paper Found → Searched
-searchedMeant (gives (interval o)) = Searched.Overloaded o
-searchedMeant (gives nothing) = Searched.Clear
+searchedMeant : Paper Answer → Searched
+searchedMeant (gives (overloaded-is i)) = Searched.Overloaded (overloadMeant i)
+searchedMeant (gives none-is) = Searched.Clear
 searchedMeant (refuses n) = byNumber n
 searchedMeant (refusesAt n k) = cond (eqb n 5) (Searched.Refused (Window k)) (Searched.Refused (Work k))
 
 searched-meant : (r : Searched) → searchedMeant (searchedSays r) ≡ r
-unfolding searchedMeant byNumber
+unfolding searchedMeant byNumber foundSays
 searched-meant (Searched.Refused Short) = refl
 searched-meant (Searched.Refused Mark) = refl
 searched-meant (Searched.Refused Counts) = refl
 searched-meant (Searched.Refused Layout) = refl
 searched-meant (Searched.Refused (Window k)) = refl
 searched-meant (Searched.Refused (Work k)) = refl
-searched-meant (Searched.Overloaded o) = refl
+searched-meant (Searched.Overloaded o) = ap Searched.Overloaded (overload-back o)
 searched-meant Searched.Clear = refl
 
 -- two answers that the paper writes alike are the same
@@ -179,5 +204,5 @@ pub says-one-answer : (r r′ : Searched) → searchedSays r ≡ searchedSays r�
 says-one-answer r r′ e = sym (searched-meant r) ∙ ap searchedMeant e ∙ searched-meant r′
 
 -- any two results that the promise allows are equal
-pub one-result : (r r′ : Searched) (x : Paper Found) → searchedSays r ≡ x → searchedSays r′ ≡ x → r ≡ r′
+pub one-result : (r r′ : Searched) (x : Paper Answer) → searchedSays r ≡ x → searchedSays r′ ≡ x → r ≡ r′
 one-result r r′ x p q = says-one-answer r r′ (p ∙ sym q)

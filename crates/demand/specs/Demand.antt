@@ -30,7 +30,12 @@ energyDemand t from to = totalOf (λ k. within from to (jobOf t k)) (λ k. jobOf
 unfoldable pub energySupply : Table → List ℕ → ℕ → ℕ → ℕ
 energySupply t harvest from to = t .capacity + harvestOf harvest from to
 
--- the two kinds of demand, each with its supply
+-- the two kinds, by the paper's numbers: "kind .. 0 (time) .. 1 (energy)"
+abbrev pub kindNumber : Kind → ℕ
+kindNumber Time = 0
+kindNumber Energy = 1
+
+-- each kind's demand and supply
 abbrev pub demandOf : Kind → Table → ℕ → ℕ → ℕ
 demandOf Time t from to = timeDemand t from to
 demandOf Energy t from to = energyDemand t from to

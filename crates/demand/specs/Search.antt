@@ -9,7 +9,7 @@ use Rattle.sheet.specs.Refusals.{refusalSays}
 use Rattle.sheet.specs.Sums.{some}
 use Rattle.sheet.specs.Table.{jobOf, tableSays}
 use Rattle.sheet.specs.declared.Table.{Table}
-use Rattle.demand.specs.Demand.{demandOf, supplyOf, overloaded}
+use Rattle.demand.specs.Demand.{kindNumber, demandOf, supplyOf, overloaded}
 use Rattle.demand.specs.declared.Kind.{Kind}
 use Rattle.demand.specs.declared.Kind.the-variants.{Time, Energy}
 use Rattle.demand.specs.declared.Overload.{Overload}
@@ -21,11 +21,30 @@ pub data Found : Type 0 where
   interval : Overload → Found
   nothing : Found
 
--- the answer as the paper writes it
-abbrev pub searchedSays : Searched → Paper Found
+-- an overloaded interval as the paper writes it: its kind's number, its slots, demand and supply
+pub record Interval : Type 0 where
+  pub kind : ℕ
+  pub from : ℕ
+  pub to : ℕ
+  pub demand : ℕ
+  pub supply : ℕ
+
+abbrev pub overloadSays : Overload → Interval
+overloadSays o = record { kind = kindNumber (o .kind); from = o .from; to = o .to; demand = o .demand; supply = o .supply }
+
+-- the search's answer as the paper writes it
+pub data Answer : Type 0 where
+  overloaded-is : Interval → Answer
+  none-is : Answer
+
+unfoldable pub foundSays : Found → Answer
+foundSays (interval o) = overloaded-is (overloadSays o)
+foundSays nothing = none-is
+
+abbrev pub searchedSays : Searched → Paper Answer
 searchedSays (Refused r) = refusalSays r
-searchedSays (Overloaded o) = gives (interval o)
-searchedSays Clear = gives nothing
+searchedSays (Overloaded o) = gives (foundSays (interval o))
+searchedSays Clear = gives (foundSays nothing)
 
 -- an interval of a kind, with its demand and supply
 abbrev pub intervalOf : Kind → Table → List ℕ → ℕ → ℕ → Overload
@@ -64,5 +83,5 @@ smallestEnd t harvest (suc n) =
     smallestEnd t harvest n or-else cond (isDeadline t (suc n)) (latestStart t harvest (suc n) (suc n)) nothing
 
 -- the search of a whole day, on a table and a harvest that are checked first
-unfoldable pub searchOf : Table → List ℕ → Paper Found
-searchOf t harvest = tableSays t harvest else gives (smallestEnd t harvest (t .slots))
+unfoldable pub searchOf : Table → List ℕ → Paper Answer
+searchOf t harvest = tableSays t harvest else gives (foundSays (smallestEnd t harvest (t .slots)))

@@ -11,7 +11,7 @@ use Rattle.sheet.specs.Table.{countsFault, windowFault, workFault, tableFaults,
 use Rattle.sheet.specs.Sheet.{recordBytes, trailerBytes, sheetBytes}
 use Rattle.sheet.specs.declared.Job.{Job}
 use Rattle.sheet.specs.declared.Table.{Table}
-use Rattle.demand.specs.Demand.{timeDemand, energyDemand, energySupply, overloaded}
+use Rattle.demand.specs.Demand.{kindNumber, timeDemand, energyDemand, energySupply, overloaded}
 use Rattle.demand.specs.Search.{isRelease, isDeadline, foundAt, latestStart, smallestEnd}
 use Rattle.demand.specs.declared.Kind.{Kind}
 use Rattle.demand.specs.declared.Kind.the-variants.{Time, Energy}
@@ -34,7 +34,7 @@ abbrev j : ℕ → ℕ → ℕ → ℕ → Job
 j release deadline wanted energy = record { release = release; deadline = deadline; wanted = wanted; energy = energy }
 
 abbrev over : Kind → ℕ → ℕ → ℕ → ℕ → Verdict
-over kind from to demand supply = Plan.overloaded (record { kind = kind; from = from; to = to; demand = demand; supply = supply })
+over kind from to demand supply = Plan.overloaded (record { kind = kindNumber kind; from = from; to = to; demand = demand; supply = supply })
 
 abbrev before : List ℕ → List ℕ
 before harvest = replicate (lib.ListN.length harvest) 7

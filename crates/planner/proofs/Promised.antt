@@ -19,7 +19,8 @@ use Rattle.sheet.proofs.Reading.{table-given, harvest-given}
 use Rattle.reader.specs.Promise.{Reads, harvestBehind}
 use Rattle.reader.specs.declared.Reading.{Reading}
 use Rattle.reader.proofs.Harvesting.{own-stretch}
-use Rattle.demand.specs.Search.{Found, interval, nothing, smallestEnd, searchedSays, searchOf}
+use Rattle.demand.specs.Search.{Found, interval, nothing, foundSays, smallestEnd, searchedSays, searchOf}
+use Rattle.demand.proofs.Theorems.{found-one}
 use Rattle.demand.specs.declared.Overload.{Overload}
 use Rattle.demand.specs.declared.Searched.{Searched}
 use Rattle.demand.specs.declared.Searched.the-variants as Searched
@@ -39,11 +40,13 @@ module _ (t : Table) (harvest plan : List ℕ) (found : Searched) (said : search
 
   refused-table : (why : Refusal) → found ≡ Searched.Refused why → tableSays t harvest ≡ refusalSays why
   unfolding searchOf
-  refused-table why told = else-refused (tableSays t harvest) (smallestEnd t harvest (t .slots)) why (sym said ∙ ap searchedSays told)
+  refused-table why told = else-refused (tableSays t harvest) (foundSays (smallestEnd t harvest (t .slots))) why (sym said ∙ ap searchedSays told)
 
-  given : (x : Found) → searchedSays found ≡ gives x → (tableSays t harvest ≡ gives tt) × (smallestEnd t harvest (t .slots) ≡ x)
+  given : (x : Found) → searchedSays found ≡ gives (foundSays x) → (tableSays t harvest ≡ gives tt) × (smallestEnd t harvest (t .slots) ≡ x)
   unfolding searchOf
-  given x e = else-gave (tableSays t harvest) (smallestEnd t harvest (t .slots)) x (sym said ∙ e)
+  given x e =
+      let both = else-gave (tableSays t harvest) (foundSays (smallestEnd t harvest (t .slots))) (foundSays x) (sym said ∙ e) in
+      (both .0, found-one (smallestEnd t harvest (t .slots)) x (both .1))
 
   pub clear-good : found ≡ Searched.Clear → GoodTable t harvest
   clear-good told = table-accepted-exactly t harvest .0 (given nothing (ap searchedSays told) .0)
@@ -57,7 +60,7 @@ module _ (t : Table) (harvest plan : List ℕ) (found : Searched) (said : search
       let says : planTable t harvest plan ≡ refusalSays why = rw e (refusal-stays why _) in
       record { answer = sym says; buffer = rw says (sym (refusal-gives-nothing Verdict why _ plan)) }
 
-  wrong : (x : Found) → searchedSays found ≡ gives x → (length plan ≡ t .slots → ⊥) → PlansTable t harvest plan WrongPlan plan
+  wrong : (x : Found) → searchedSays found ≡ gives (foundSays x) → (length plan ≡ t .slots → ⊥) → PlansTable t harvest plan WrongPlan plan
   unfolding planTable tablePlanned
   wrong x e h = let g = given x e in record { answer = rw (g .0, ne-eqb _ _ h); buffer = rw (g .0, ne-eqb _ _ h) }
 

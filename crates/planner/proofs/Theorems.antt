@@ -17,6 +17,7 @@ use Rattle.sheet.proofs.Theorems.{table-accepted-exactly, sheet-accepted-exactl
 use Rattle.sheet.specs.Paper.{Paper, gives, refuses, refusesAt}
 use Rattle.sheet.specs.declared.Refusal.the-variants.{Short, Mark, Counts, Layout, Window, Work}
 use Rattle.sheet.specs.declared.Table.{Table}
+use Rattle.demand.proofs.Theorems.{overloadMeant, overload-back}
 use Rattle.planner.specs.Plan.{Verdict, overloaded, met, undecided, verdictOf, planTable, planSheet}
 use Rattle.planner.specs.Promise.{plannedSays, PlansTable, PlansSheet}
 use Rattle.planner.specs.declared.Planned.{Planned}
@@ -25,7 +26,7 @@ use Rattle.planner.specs.declared.Planned.the-variants.{Refused, WrongPl
 -- ---- any two results that a promise allows are equal
 
 plannedMeant : Paper Verdict → Planned
-plannedMeant (gives (overloaded o)) = Overloaded o
+plannedMeant (gives (overloaded i)) = Overloaded (overloadMeant i)
 plannedMeant (gives met) = Met
 plannedMeant (gives (undecided k)) = Undecided k
 plannedMeant (refuses n) =
@@ -41,7 +42,7 @@ planned-meant (Refused Layout) = refl
 planned-meant (Refused (Window k)) = refl
 planned-meant (Refused (Work k)) = refl
 planned-meant WrongPlan = refl
-planned-meant (Overloaded o) = refl
+planned-meant (Overloaded o) = ap Overloaded (overload-back o)
 planned-meant Met = refl
 planned-meant (Undecided k) = refl
 

@@ -8,14 +8,13 @@ use Rattle.sheet.specs.Paper.{Paper, Check, gives, _given-when_, _else_, whereG
 use Rattle.sheet.specs.Table.{tableSays}
 use Rattle.sheet.specs.Sheet.{sheetSays, slotsIn, tableIn, harvestIn}
 use Rattle.sheet.specs.declared.Table.{Table}
-use Rattle.demand.specs.Search.{Found, interval, nothing, smallestEnd}
-use Rattle.demand.specs.declared.Overload.{Overload}
+use Rattle.demand.specs.Search.{Found, interval, nothing, Interval, overloadSays, smallestEnd}
 use Rattle.slot_run.specs.Choosing.{Choice, nobody, job, unfinished}
 use Rattle.slot_run.specs.Rules.{stateAt, planOf}
 
 -- the answer to a day that is planned
 pub data Verdict : Type 0 where
-  overloaded : Overload → Verdict
+  overloaded : Interval → Verdict
   met : Verdict
   undecided : (job : ℕ) → Verdict
 
@@ -26,7 +25,7 @@ byUnfinished (job k) = undecided k
 
 -- "Overloaded interval: that interval .. Else the run"
 abbrev pub byFound : Found → Verdict → Verdict
-byFound (interval o) run = overloaded o
+byFound (interval o) run = overloaded (overloadSays o)
 byFound nothing run = run
 
 unfoldable pub verdictOf : Table → List ℕ → Verdict

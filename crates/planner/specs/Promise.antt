@@ -5,6 +5,7 @@ use mathlib.Core.List.{List}
 use Rattle.sheet.specs.Paper.{Paper, gives, refuses}
 use Rattle.sheet.specs.Refusals.{refusalSays}
 use Rattle.sheet.specs.declared.Table.{Table}
+use Rattle.demand.specs.Search.{overloadSays}
 use Rattle.planner.specs.Plan.{Verdict, overloaded, met, undecided, planTable, tablePlanned, planSheet, sheetPlanned}
 use Rattle.planner.specs.declared.Planned.{Planned}
 use Rattle.planner.specs.declared.Planned.the-variants.{Refused, WrongPlan, Overloaded, Met, Undecided}
@@ -13,7 +14,7 @@ use Rattle.planner.specs.declared.Planned.the-variants.{Refused, WrongPl
 abbrev pub plannedSays : Planned → Paper Verdict
 plannedSays (Refused r) = refusalSays r
 plannedSays WrongPlan = refuses 7
-plannedSays (Overloaded o) = gives (overloaded o)
+plannedSays (Overloaded o) = gives (overloaded (overloadSays o))
 plannedSays Met = gives met
 plannedSays (Undecided k) = gives (undecided k)
 

@@ -1,0 +1,22 @@
+-- Each kind is one more than its number.
+use mathlib.Core.Path.{refl}
+use native.Mathlib.Omega.{arith}
+use Rattle.bench.proofs.Numbers.{kind-told}
+use borrow.Author.Needs.{needs}
+use Rattle.bench.proofs.kind_part.Statement.{statement}
+use Rattle.bench.proofs.kind_part.Tie as tie
+
+enum-told : tie.Need-enum-told
+enum-told c = search needs
+
+enum-told-2 : tie.Need-enum-told-2
+enum-told-2 c = search needs
+
+returns : tie.Need-returns
+returns c = (kind-told _ _ 1 (c .enum-told .given .1) refl, omega arith)
+
+returns-2 : tie.Need-returns-2
+returns-2 c = (kind-told _ _ 2 (c .enum-told2 .given .1) refl, omega arith)
+
+pub kind-part-spec : {M : Type 1} → statement M
+kind-part-spec = tie.close (tie.spec enum-told enum-told-2 returns returns-2)
