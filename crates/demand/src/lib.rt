@@ -40,7 +40,7 @@ pub enum Searched {
 }
 
 // The running totals of a harvest, as `sheet::totals` answers them.
-type Totals = [u32; 1441];
+type Totals = [u32; sheet::TOTALS];
 
 // A job with this release and deadline is one of the interval's.
 fn is_within(from: u16, to: u16, release: u16, deadline: u16) -> bool
@@ -118,10 +118,10 @@ fn compared(latest: Latest, from: u16, to: u16, time: u32, energy: u32, supply: 
 // summed up here, in a loop in the loop, and every number is loaded before it is known to count.
 fn latest_start<'a>(
     t: Table,
-    release: &'a [u16; 64],
-    deadline: &'a [u16; 64],
-    wanted: &'a [u16; 64],
-    cost: &'a [u32; 64],
+    release: &'a [u16; sheet::MOST_JOBS],
+    deadline: &'a [u16; sheet::MOST_JOBS],
+    wanted: &'a [u16; sheet::MOST_JOBS],
+    cost: &'a [u32; sheet::MOST_JOBS],
     totals: &'a Totals,
     to: u16,
 ) -> Finding
@@ -152,7 +152,7 @@ fn latest_start<'a>(
 }
 
 // The first deadline after a slot, or slots + 1 where there is none.
-fn next_deadline(t: Table, deadline: &[u16; 64], after: u16) -> u16
+fn next_deadline(t: Table, deadline: &[u16; sheet::MOST_JOBS], after: u16) -> u16
     requires { ⌜ (t .count ≤ mostJobs) × (t .slots ≤ mostSlots) × (after ≤ t .slots) × (now deadline ≡ columnsOf t .deadline) ⌝ }
     ensures { λ r. ⌜ NextDeadline t after r ⌝ }
 {

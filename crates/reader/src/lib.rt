@@ -12,14 +12,6 @@ ghost use Rattle.sheet.specs.Sheet.{u16At, jobIn, jobsIn, slotsIn, capacityIn, 
 ghost use Rattle.reader.specs.Steps.{FrontFine};
 ghost use Rattle.reader.specs.Promise.{Reads, refusedReading, harvestBehind};
 
-const RECORD: usize = 8;
-
-const TRAILER: usize = 12;
-
-const MARK_FIRST: u8 = 0x45;
-
-const MARK_SECOND: u8 = 0x48;
-
 // What reading a sheet yields. Of a refused sheet the table has no jobs, slots 0 and capacity 0.
 pub struct Reading {
     pub outcome: Outcome,
@@ -48,7 +40,7 @@ fn job_in(bytes: &[u8], k: usize) -> Job
     requires { ⌜ recordLength * k + recordLength ≤ length (now bytes) ⌝ }
     ensures { λ r. ⌜ r ≡ jobIn (now (bytes .entry)) k ⌝ }
 {
-    let at = RECORD * k;
+    let at = sheet::RECORD_LENGTH * k;
     Job {
         release: u16_at(bytes, at),
         deadline: u16_at(bytes, at + 2),
@@ -63,10 +55,10 @@ fn mark_fault(bytes: &[u8]) -> bool
     ensures { λ r. ⌜ r ≡ markFault (now (bytes .entry)) ⌝ }
 {
     let length = bytes.len();
-    if bytes[length - 2] != MARK_FIRST {
+    if bytes[length - 2] != sheet::MARK_FIRST {
         return true;
     }
-    bytes[length - 1] != MARK_SECOND
+    bytes[length - 1] != sheet::MARK_SECOND
 }
 
 // 4 applies: the back distances are not slots and slots + 8 × jobs, or the length does not fit them.
@@ -76,15 +68,15 @@ fn layout_fault(bytes: &[u8], count: usize, slots: u16) -> bool
     ensures { λ r. ⌜ r ≡ layoutFault (now (bytes .entry)) ⌝ }
 {
     let length = bytes.len();
-    let trailer = length - TRAILER;
-    let back = slots as usize + RECORD * count;
+    let trailer = length - sheet::TRAILER_LENGTH;
+    let back = slots as usize + sheet::RECORD_LENGTH * count;
     if u16_at(bytes, trailer) != slots {
         return true;
     }
     if u16_at(bytes, trailer + 2) as usize != back {
         return true;
     }
-    length != back + TRAILER
+    length != back + sheet::TRAILER_LENGTH
 }
 
 // What a refused sheet yields.
@@ -100,7 +92,7 @@ fn refused(why: Refusal) -> Reading
     Reading {
         outcome: Outcome::Refused(why),
         table: Table {
-            jobs: [none; 64],
+            jobs: [none; sheet::MOST_JOBS],
             count: 0,
             slots: 0,
             capacity: 0,
@@ -119,11 +111,11 @@ fn read_records(bytes: &[u8], count: usize, slots: u16, capacity: u16) -> Readin
         wanted: 0,
         energy: 0,
     };
-    let mut jobs = [none; 64];
+    let mut jobs = [none; sheet::MOST_JOBS];
     let mut k = 0;
     while k < count {
         let job = job_in(bytes, k);
-        let answer = sheet::check_record(slots, job, bytes[RECORD * k + 7], k);
+        let answer = sheet::check_record(slots, job, bytes[sheet::RECORD_LENGTH * k + 7], k);
         if let Outcome::Refused(why) = answer {
             return refused(why);
         }
@@ -147,13 +139,13 @@ pub fn read(bytes: &[u8]) -> Reading
     ensures { λ r. ⌜ Reads (now (bytes .entry)) r ⌝ }
 {
     let length = bytes.len();
-    if length < TRAILER {
+    if length < sheet::TRAILER_LENGTH {
         return refused(Refusal::Short);
     }
     if mark_fault(bytes) {
         return refused(Refusal::Mark);
     }
-    let trailer = length - TRAILER;
+    let trailer = length - sheet::TRAILER_LENGTH;
     let count = u16_at(bytes, trailer + 4) as usize;
     let slots = u16_at(bytes, trailer + 6);
     if sheet::counts_fault(count, slots) {
@@ -173,7 +165,7 @@ pub fn stretch(bytes: &[u8], count: usize, slots: u16) -> &[u8]
     if sheet::MOST_JOBS < count {
         return &bytes[..0];
     }
-    let from = RECORD * count;
+    let from = sheet::RECORD_LENGTH * count;
     let to = from + slots as usize;
     if bytes.len() < to {
         return &bytes[..0];

@@ -12,6 +12,18 @@ pub const MOST_JOBS: usize = 64;
 
 pub const MOST_SLOTS: u16 = 1440;
 
+// The lengths of a sheet's job record and of its trailer, and the two bytes of its mark.
+pub const RECORD_LENGTH: usize = 8;
+
+pub const TRAILER_LENGTH: usize = 12;
+
+pub const MARK_FIRST: u8 = 0x45;
+
+pub const MARK_SECOND: u8 = 0x48;
+
+// Running totals have an entry for each number of slots, from none to the longest day's.
+pub const TOTALS: usize = MOST_SLOTS as usize + 1;
+
 // A job may run in the slots from its release up to, not including, its deadline. It wants that
 // many slots, and each slot that it is busy costs its energy.
 pub struct Job {
@@ -24,7 +36,7 @@ pub struct Job {
 // A table: the first `count` places of `jobs` are its jobs, in order. What stands in the other
 // places is no part of the table. `read` leaves zeros there, and no call looks.
 pub struct Table {
-    pub jobs: [Job; 64],
+    pub jobs: [Job; MOST_JOBS],
     pub count: usize,
     pub slots: u16,
     pub capacity: u16,
@@ -186,10 +198,10 @@ fn day_at_most(slots: usize) -> usize
 
 // Running totals of a harvest: entry k is what the first k slots harvest, for every k up to the
 // harvest's length and 1,440; zeros beyond.
-pub fn totals(harvest: &[u8]) -> [u32; 1441]
+pub fn totals(harvest: &[u8]) -> [u32; TOTALS]
     ensures { λ r. ⌜ TotalsOf (now (harvest .entry)) r × SmallTotals r × ZerosBeyond (now (harvest .entry)) r ⌝ }
 {
-    let mut sums = [0u32; 1441];
+    let mut sums = [0u32; TOTALS];
     let mut sum: u32 = 0;
     let slots = day_at_most(harvest.len());
     let mut k = 0;
@@ -204,11 +216,11 @@ pub fn totals(harvest: &[u8]) -> [u32; 1441]
 // A table's jobs by columns, one number of each job in the job's place and zeros beyond the last job:
 // a sum over all jobs runs over columns several times as fast. A job's cost is slots wanted × energy.
 pub struct Columns {
-    pub release: [u16; 64],
-    pub deadline: [u16; 64],
-    pub wanted: [u16; 64],
-    pub energy: [u8; 64],
-    pub cost: [u32; 64],
+    pub release: [u16; MOST_JOBS],
+    pub deadline: [u16; MOST_JOBS],
+    pub wanted: [u16; MOST_JOBS],
+    pub energy: [u8; MOST_JOBS],
+    pub cost: [u32; MOST_JOBS],
 }
 
 // The columns of a table of at most 64 jobs. Only for a table that was checked; `demand` and
@@ -218,11 +230,11 @@ pub fn by_columns(t: Table) -> Columns
     ensures { λ r. ⌜ (r ≡ columnsOf t) × SmallCosts (r .cost) ⌝ }
 {
     let count = t.count;
-    let mut release = [0u16; 64];
-    let mut deadline = [0u16; 64];
-    let mut wanted = [0u16; 64];
-    let mut energy = [0u8; 64];
-    let mut costs = [0u32; 64];
+    let mut release = [0u16; MOST_JOBS];
+    let mut deadline = [0u16; MOST_JOBS];
+    let mut wanted = [0u16; MOST_JOBS];
+    let mut energy = [0u8; MOST_JOBS];
+    let mut costs = [0u32; MOST_JOBS];
     let mut k = 0;
     while k < count {
         let j = t.jobs[k];

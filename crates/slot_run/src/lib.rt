@@ -25,7 +25,7 @@ const IDLE: u8 = 255;
 pub struct State {
     pub slot: u16,
     pub level: u16,
-    pub left: [u16; 64],
+    pub left: [u16; sheet::MOST_JOBS],
 }
 
 // Why a slot is busy.
@@ -143,9 +143,9 @@ fn beside(so_far: Chosen, k: usize, deadline: u16) -> Chosen
 fn earliest_job<'a>(
     t: Table,
     s: State,
-    release: &'a [u16; 64],
-    deadline: &'a [u16; 64],
-    left: &'a [u16; 64],
+    release: &'a [u16; sheet::MOST_JOBS],
+    deadline: &'a [u16; sheet::MOST_JOBS],
+    left: &'a [u16; sheet::MOST_JOBS],
     only_ready: bool,
 ) -> Chosen
     requires { ⌜ (t .count ≤ mostJobs) × (now release ≡ columnsOf t .release) × (now deadline ≡ columnsOf t .deadline) × (now left ≡ s .left) ⌝ }
@@ -167,9 +167,9 @@ fn earliest_job<'a>(
 fn choose<'a>(
     t: Table,
     s: State,
-    release: &'a [u16; 64],
-    deadline: &'a [u16; 64],
-    left: &'a [u16; 64],
+    release: &'a [u16; sheet::MOST_JOBS],
+    deadline: &'a [u16; sheet::MOST_JOBS],
+    left: &'a [u16; sheet::MOST_JOBS],
 ) -> Chosen
     requires { ⌜ (t .count ≤ mostJobs) × (now release ≡ columnsOf t .release) × (now deadline ≡ columnsOf t .deadline) × (now left ≡ s .left) ⌝ }
     ensures { λ r. ⌜ (chosenSays r ≡ chosen t s) × DeadlineHeld t r ⌝ }
@@ -192,7 +192,12 @@ fn pending_part(slot: u16, end: u16, deadline: u16, left: u16) -> u32
 
 // Slack time is 0 or less: some job that still wants slots has a deadline that the work pending up to
 // it fills.
-fn no_slack<'a>(t: Table, s: State, deadline: &'a [u16; 64], left: &'a [u16; 64]) -> bool
+fn no_slack<'a>(
+    t: Table,
+    s: State,
+    deadline: &'a [u16; sheet::MOST_JOBS],
+    left: &'a [u16; sheet::MOST_JOBS],
+) -> bool
     requires { ⌜ (t .count ≤ mostJobs) × (now deadline ≡ columnsOf t .deadline) × (now left ≡ s .left) ⌝ }
     ensures { λ r. ⌜ r ≡ zeroOrLess (slackTime t s) ⌝ }
 {
@@ -231,7 +236,7 @@ fn coming_part(slot: u16, end: u16, release: u16, deadline: u16, cost: u32) -> u
 }
 
 // The level and the harvest of the slots from .. to - 1 are less than what is needed.
-fn falls_short(totals: &[u32; 1441], level: u16, from: usize, to: u16, needed: u32) -> bool
+fn falls_short(totals: &[u32; sheet::TOTALS], level: u16, from: usize, to: u16, needed: u32) -> bool
     requires { ⌜ (from ≤ mostSlots) × (to ≤ mostSlots) × (needed ≤ 2000000000) × SmallTotals (now totals) ⌝ }
     ensures { λ r. ⌜ r ≡ ltb (level + getD (now (totals .entry)) to 0) (needed + getD (now (totals .entry)) from 0) ⌝ }
 {
@@ -245,10 +250,10 @@ fn falls_short(totals: &[u32; 1441], level: u16, from: usize, to: u16, needed: u
 fn needs_charge<'a>(
     t: Table,
     s: State,
-    release: &'a [u16; 64],
-    deadline: &'a [u16; 64],
-    cost: &'a [u32; 64],
-    totals: &'a [u32; 1441],
+    release: &'a [u16; sheet::MOST_JOBS],
+    deadline: &'a [u16; sheet::MOST_JOBS],
+    cost: &'a [u32; sheet::MOST_JOBS],
+    totals: &'a [u32; sheet::TOTALS],
     at: usize,
     own: u16,
     energy: u8,
@@ -289,13 +294,13 @@ fn at_hand(harvest: &[u8], at: usize, level: u16) -> u32
 fn rule_for<'a>(
     t: Table,
     s: State,
-    release: &'a [u16; 64],
-    deadline: &'a [u16; 64],
-    energy: &'a [u8; 64],
-    cost: &'a [u32; 64],
-    left: &'a [u16; 64],
+    release: &'a [u16; sheet::MOST_JOBS],
+    deadline: &'a [u16; sheet::MOST_JOBS],
+    energy: &'a [u8; sheet::MOST_JOBS],
+    cost: &'a [u32; sheet::MOST_JOBS],
+    left: &'a [u16; sheet::MOST_JOBS],
     harvest: &'a [u8],
-    totals: &'a [u32; 1441],
+    totals: &'a [u32; sheet::TOTALS],
     at: usize,
     k: usize,
     own: u16,
@@ -326,13 +331,13 @@ fn rule_for<'a>(
 fn decide<'a>(
     t: Table,
     s: State,
-    release: &'a [u16; 64],
-    deadline: &'a [u16; 64],
-    energy: &'a [u8; 64],
-    cost: &'a [u32; 64],
-    left: &'a [u16; 64],
+    release: &'a [u16; sheet::MOST_JOBS],
+    deadline: &'a [u16; sheet::MOST_JOBS],
+    energy: &'a [u8; sheet::MOST_JOBS],
+    cost: &'a [u32; sheet::MOST_JOBS],
+    left: &'a [u16; sheet::MOST_JOBS],
     harvest: &'a [u8],
-    totals: &'a [u32; 1441],
+    totals: &'a [u32; sheet::TOTALS],
     at: usize,
 ) -> Decision
     requires { ⌜ InDay t (now harvest) (now totals) s × (at ≡ s .slot) × Lent t s (now release) (now deadline) (now energy) (now cost) (now left) ⌝ }
@@ -373,11 +378,11 @@ fn cut(capacity: u16, level: u32) -> u16
 fn after<'a>(
     t: Table,
     s: State,
-    energy: &'a [u8; 64],
+    energy: &'a [u8; sheet::MOST_JOBS],
     harvest: &'a [u8],
     at: usize,
     d: Decision,
-    left: &mut [u16; 64],
+    left: &mut [u16; sheet::MOST_JOBS],
 ) -> u16
     requires { ⌜ GoodTable t (now harvest) × (s .slot < t .slots) × (at ≡ s .slot) × (now energy ≡ columnsOf t .energy) × (decisionSays d ≡ decided t (now harvest) s) × (now left ≡ s .left) ⌝ }
     ensures { λ r. ⌜ (r ≡ nextState t (now (harvest .entry)) s .level) × (now (left .exit) ≡ nextState t (now (harvest .entry)) s .left) ⌝ }
@@ -400,7 +405,7 @@ fn first_state(t: Table) -> State
     ensures { λ r. ⌜ r ≡ firstState t ⌝ }
 {
     let count = t.count;
-    let mut left = [0u16; 64];
+    let mut left = [0u16; sheet::MOST_JOBS];
     let mut k = 0;
     while k < count {
         left[k] = t.jobs[k].wanted;
@@ -425,7 +430,7 @@ pub fn begin(t: Table, harvest: &[u8]) -> Start
             state: State {
                 slot: 0,
                 level: 0,
-                left: [0; 64],
+                left: [0; sheet::MOST_JOBS],
             },
         };
     }

@@ -12,15 +12,6 @@ ghost use Rattle.sheet.specs.Sheet.{u16, recordBytes, recordLength, trailerByte
 ghost use Rattle.writer.specs.Laid.{Laid};
 ghost use Rattle.writer.specs.Promise.{Writes};
 
-// The lengths of a job record and of the trailer, and the two bytes of the mark.
-const RECORD_LENGTH: usize = 8;
-
-const TRAILER_LENGTH: usize = 12;
-
-const MARK_FIRST: u8 = 0x45;
-
-const MARK_SECOND: u8 = 0x48;
-
 // The writer's answer.
 pub enum Written {
     // The sheet stands at the front of the buffer, and is that many bytes long.
@@ -71,7 +62,7 @@ fn put_records(out: &mut [u8], t: Table)
     while k < count {
         put_record(
             out,
-            RECORD_LENGTH * k,
+            sheet::RECORD_LENGTH * k,
             t.jobs[k].release,
             t.jobs[k].deadline,
             t.jobs[k].wanted,
@@ -99,13 +90,13 @@ fn put_trailer(out: &mut [u8], at: usize, t: Table)
     requires { ⌜ (t .count ≤ mostJobs) × (t .slots ≤ mostSlots) × (at + trailerLength ≤ length (now out)) ⌝ }
     ensures { λ _. ⌜ Laid (now (out .entry)) at (trailerBytes t) (now (out .exit)) ⌝ }
 {
-    let records = RECORD_LENGTH * t.count;
+    let records = sheet::RECORD_LENGTH * t.count;
     put_u16(out, at, t.slots);
     put_u16(out, at + 2, t.slots + records as u16);
     put_u16(out, at + 4, t.count as u16);
     put_u16(out, at + 6, t.slots);
     put_u16(out, at + 8, t.capacity);
-    put_pair(out, at + 10, MARK_FIRST, MARK_SECOND);
+    put_pair(out, at + 10, sheet::MARK_FIRST, sheet::MARK_SECOND);
 }
 
 // The length of a sheet of at most 64 jobs: slots + 8 × jobs + 12.
@@ -113,7 +104,7 @@ fn sheet_length(count: usize, slots: u16) -> usize
     requires { ⌜ count ≤ mostJobs ⌝ }
     ensures { λ r. ⌜ r ≡ sheetLength count slots ⌝ }
 {
-    slots as usize + RECORD_LENGTH * count + TRAILER_LENGTH
+    slots as usize + sheet::RECORD_LENGTH * count + sheet::TRAILER_LENGTH
 }
 
 // Puts the whole sheet of an accepted table and its harvest at the front of a buffer, up to the
@@ -124,8 +115,8 @@ fn put_sheet(out: &mut [u8], end: usize, t: Table, harvest: &[u8])
     ensures { λ _. ⌜ Laid (now (out .entry)) 0 (sheetBytes t (now (harvest .entry))) (now (out .exit)) ⌝ }
 {
     put_records(out, t);
-    put_harvest(out, RECORD_LENGTH * t.count, harvest);
-    put_trailer(out, end - TRAILER_LENGTH, t);
+    put_harvest(out, sheet::RECORD_LENGTH * t.count, harvest);
+    put_trailer(out, end - sheet::TRAILER_LENGTH, t);
 }
 
 // Writes the sheet of a table and its harvest at the front of `out` and answers its length. The
