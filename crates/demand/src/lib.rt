@@ -42,15 +42,16 @@ pub enum Searched {
 // The running totals of a harvest, as `sheet::totals` answers them.
 type Totals = [u32; sheet::TOTALS];
 
-// A job with this release and deadline is one of the interval's.
-fn is_within(from: u16, to: u16, release: u16, deadline: u16) -> bool
+// A job with this release and deadline is one of the interval's: released at or after its start, and
+// its deadline at or before its end.
+pub fn is_within(from: u16, to: u16, release: u16, deadline: u16) -> bool
     ensures { λ r. ⌜ r ≡ (leb from release && leb deadline to) ⌝ }
 {
     from <= release && deadline <= to
 }
 
-// The amount where it counts, otherwise nothing.
-fn counted_if(counts: bool, amount: u32) -> u32
+// The amount where it counts, otherwise 0.
+pub fn counted_if(counts: bool, amount: u32) -> u32
     ensures { λ r. ⌜ (r ≡ cond counts amount 0) × (r ≤ amount) ⌝ }
 {
     if counts { amount } else { 0 }

@@ -13,12 +13,11 @@ use Rattle.sheet.specs.declared.Outcome.the-variants as Outcome
 use Rattle.sheet.specs.WellFormed.{GoodTable}
 use Rattle.sheet.specs.declared.Refusal.{Refusal}
 use Rattle.sheet.specs.declared.Table.{Table}
-use Rattle.sheet.proofs.Order.{says-gives, refusal-stays, refusal-gives-nothing, else-refused, else-gave}
+use Rattle.sheet.proofs.Order.{refusal-stays, refusal-gives-nothing, else-refused, else-gave}
 use Rattle.sheet.proofs.Theorems.{table-accepted-exactly, sheet-accepted-exactly}
-use Rattle.sheet.proofs.Reading.{table-given, harvest-given}
-use Rattle.reader.specs.Promise.{Reads, harvestBehind}
+use Rattle.reader.specs.Promise.{Reads}
 use Rattle.reader.specs.declared.Reading.{Reading}
-use Rattle.reader.proofs.Harvesting.{own-stretch}
+use Rattle.reader.proofs.Harvesting.{Accepts}
 use Rattle.demand.specs.Search.{Found, interval, nothing, foundSays, smallestEnd, searchedSays, searchOf}
 use Rattle.demand.proofs.Theorems.{found-one}
 use Rattle.demand.specs.declared.Overload.{Overload}
@@ -110,29 +109,22 @@ module _ (s plan : List ℕ) (reading : Reading) (read : Reads s reading) where
       let says : planSheet s plan ≡ refusalSays why = rw e (refusal-stays why _) in
       record { answer = sym says; buffer = rw says (sym (refusal-gives-nothing Verdict why _ plan)) }
 
-  module _ (told : reading .outcome ≡ Outcome.Accepted) where
-    accepted : sheetSays s ≡ gives tt
-    accepted = says-gives (reading .outcome) (sheetSays s) told (read .answer)
+module _ (s plan : List ℕ) (t : Table) (harvest : List ℕ) (a : Accepts s t harvest) where
+  good : tableSays (tableIn s) (harvestIn s) ≡ gives tt
+  good = table-accepted-exactly (tableIn s) (harvestIn s) .1 (sheet-accepted-exactly s .0 (a .says) .good-table)
 
-    good : tableSays (tableIn s) (harvestIn s) ≡ gives tt
-    good = table-accepted-exactly (tableIn s) (harvestIn s) .1 (sheet-accepted-exactly s .0 accepted .good-table)
+  -- the plan of an accepted sheet is that of its table and harvest
+  same-says : planTable (tableIn s) (harvestIn s) plan ≡ planSheet s plan
+  unfolding planTable planSheet tableIn
+  same-says = rw (good, a .says)
 
-    -- the plan of an accepted sheet is that of its table and harvest
-    same-says : planTable (tableIn s) (harvestIn s) plan ≡ planSheet s plan
-    unfolding planTable planSheet tableIn
-    same-says = rw (good, accepted)
+  same-buffer : tablePlanned (tableIn s) (harvestIn s) plan ≡ sheetPlanned s plan
+  unfolding tablePlanned sheetPlanned
+  same-buffer = rw same-says
 
-    same-buffer : tablePlanned (tableIn s) (harvestIn s) plan ≡ sheetPlanned s plan
-    unfolding tablePlanned sheetPlanned
-    same-buffer = rw same-says
-
-    pub sheet-accepted : (harvest : List ℕ) (r : Planned) (after : List ℕ) → harvest ≡ harvestBehind s (reading .table .count) (reading .table .slots)
-        → PlansTable (reading .table) harvest plan r after → PlansSheet s plan r after
-    sheet-accepted harvest r after stretch planned =
-        let table : reading .table ≡ tableIn s = read .table ∙ table-given s accepted in
-        let bytes : harvest ≡ harvestIn s =
-        stretch ∙ ap (λ (u : Table). harvestBehind s (u .count) (u .slots)) (read .table) ∙ own-stretch s ∙ harvest-given s accepted in
-        record {
-          answer = planned .answer ∙ ap₂ (λ (u : Table) (h : List ℕ). planTable u h plan) table bytes ∙ same-says;
-          buffer = planned .buffer ∙ ap₂ (λ (u : Table) (h : List ℕ). tablePlanned u h plan) table bytes ∙ same-buffer;
-        }
+  pub sheet-accepted : (r : Planned) (after : List ℕ) → PlansTable t harvest plan r after → PlansSheet s plan r after
+  sheet-accepted r after planned =
+      record {
+        answer = planned .answer ∙ ap₂ (λ (u : Table) (h : List ℕ). planTable u h plan) (a .table-is) (a .harvest-is) ∙ same-says;
+        buffer = planned .buffer ∙ ap₂ (λ (u : Table) (h : List ℕ). tablePlanned u h plan) (a .table-is) (a .harvest-is) ∙ same-buffer;
+      }

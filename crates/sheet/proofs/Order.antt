@@ -1,6 +1,6 @@
 -- Laws of the first refusal among places in order: at 0, at one place more, and at the place that refuses.
 use Prim.Native.Nat.{ℕ, zero, suc, _+_, _<_, _≤_}
-use mathlib.Core.Path.{_≡_, refl, sym, ap, _∙_, subst}
+use mathlib.Core.Path.{_≡_, refl, sym, ap, ap₂, _∙_, subst}
 use mathlib.Core.Logic.{_⊎_, inl, inr}
 use native.Mathlib.Nat.{not-suc-le-zero}
 use native.Mathlib.Numerals.{add-one}
@@ -43,6 +43,12 @@ in-order-more f n = ap (inOrder f) (add-one n)
 pub in-order-clear : (f : ℕ → Check) (n : ℕ) → inOrder f n ≡ gives tt → f n ≡ gives tt → inOrder f (n + 1) ≡ gives tt
 in-order-clear f n e h = in-order-more f n ∙ else-goes-on (inOrder f n) (f n) e ∙ h
 
+-- place by place
+pub in-order-same : (f g : ℕ → Check) (n : ℕ) → ((k : ℕ) → k < n → f k ≡ g k) → inOrder f n ≡ inOrder g n
+unfolding inOrder
+in-order-same f g zero e = refl
+in-order-same f g (suc n) e = ap₂ (λ (x y : Check). x else y) (in-order-same f g n (λ k h. e k (omega arith))) (e n (omega arith))
+
 -- where the places before i refuse nothing and i refuses, i's refusal is the answer for any more places
 pub in-order-first : (f : ℕ → Check) (i n : ℕ) → i < n → inOrder f i ≡ gives tt → Refuses (f i) → inOrder f n ≡ f i
 unfolding inOrder
@@ -56,6 +62,33 @@ in-order-first f i (suc n) h e r =
           let same : i ≡ n = omega arith in
           ap (λ (x : Check). x else f n) (subst (λ (k : ℕ). inOrder f k ≡ gives tt) same e) ∙ ap f (sym same)
     ]
+
+-- n places: nothing is refused, or there is a first place that refuses, and its refusal is the answer
+abbrev pub OneRefuses : (ℕ → Check) → ℕ → Type 0
+OneRefuses f n =
+    (((k : ℕ) → k < n → f k ≡ gives tt) × (inOrder f n ≡ gives tt))
+    ⊎ ((k : ℕ) × (k < n) × ((j : ℕ) → j < k → f j ≡ gives tt) × Refuses (f k) × (inOrder f n ≡ f k))
+
+pub in-order-decided : (f : ℕ → Check) (n : ℕ) → OneRefuses f n
+unfolding inOrder
+in-order-decided f zero = inl ((λ k h. absurd (not-suc-le-zero h)), refl)
+in-order-decided f (suc n) = go (in-order-decided f n)
+  where
+    last : ((k : ℕ) → k < n → f k ≡ gives tt) → inOrder f n ≡ gives tt → (f n ≡ gives tt) ⊎ Refuses (f n) → OneRefuses f (suc n)
+    last clear says (inl e) =
+        inl (
+          (λ k h.
+              elim (decLt k n) [
+                | yes l ↦ clear k l
+                | no l ↦ let same : n ≡ k = omega arith in subst (λ (j : ℕ). f j ≡ gives tt) same e
+              ]),
+          rw says e,
+        )
+    last clear says (inr r) = inr (n, omega arith, clear, r, rw says)
+
+    go : OneRefuses f n → OneRefuses f (suc n)
+    go (inl c) = last (c .0) (c .1) (gives-or-refuses (f n))
+    go (inr w) = let l = w .1 in inr (w .0, omega arith, w .2, w .3, ap (λ (x : Check). x else f n) (w .4) ∙ else-stays (f (w .0)) (f n) (w .3))
 
 refusal-refuses : (r : Refusal) → Refuses (refusalSays r)
 refusal-refuses Short = tt

@@ -139,6 +139,17 @@ harvest-from harvest from to h =
     let c = total-more (harvestAt harvest) from in
     omega arith
 
+-- no slot, and one slot more at the end
+pub harvest-none : (harvest : List ℕ) (from : ℕ) → harvestOf harvest from from ≡ 0
+harvest-none harvest from = let a = harvest-split harvest from from (omega arith) in omega arith
+
+pub harvest-to : (harvest : List ℕ) (from to : ℕ) → from ≤ to → harvestOf harvest from (to + 1) ≡ harvestOf harvest from to + harvestAt harvest to
+harvest-to harvest from to h =
+    let a = harvest-split harvest from to h in
+    let b = harvest-split harvest from (to + 1) (omega arith) in
+    let c = total-more (harvestAt harvest) to in
+    omega arith
+
 -- a longer stretch harvests no less
 pub harvest-grows : (harvest : List ℕ) (from to from′ to′ : ℕ) → from′ ≤ from → from ≤ to → to ≤ to′ → harvestOf harvest from to ≤ harvestOf harvest from′ to′
 harvest-grows harvest from to from′ to′ p q r =

@@ -27,23 +27,23 @@ use Rattle.sheet.proofs.Words.{counts-words, mark-words, layout-words, 
 
 -- ---- a test that holds, in words
 
-not-of : (b : Bool) {G : Type 0} → ((b ≡ false) ↔ G) → (b ≡ true) ↔ (G → ⊥)
+pub not-of : (b : Bool) {G : Type 0} → ((b ≡ false) ↔ G) → (b ≡ true) ↔ (G → ⊥)
 not-of b w = ((λ e g. never-both e (w .1 g)), (λ h. ⊎-elim (λ t. t) (λ f. absurd (h (w .0 f))) (either b)))
 
-or-of : (a b : Bool) {A B : Type 0} → ((a ≡ true) ↔ A) → ((b ≡ true) ↔ B) → ((a || b) ≡ true) ↔ (A ⊎ B)
+pub or-of : (a b : Bool) {A B : Type 0} → ((a ≡ true) ↔ A) → ((b ≡ true) ↔ B) → ((a || b) ≡ true) ↔ (A ⊎ B)
 or-of true b p q = ((λ e. inl (p .0 refl)), (λ s. refl))
 or-of false b p q = ((λ e. inr (q .0 e)), (λ s. ⊎-elim (λ x. absurd (never-both (p .1 x) refl)) (λ y. q .1 y) s))
 
-below : (m n : ℕ) → (ltb m n ≡ true) ↔ (m < n)
+pub below : (m n : ℕ) → (ltb m n ≡ true) ↔ (m < n)
 below m n = (ltb-true m n, lt-ltb m n)
 
-same : (m n : ℕ) → (eqb m n ≡ true) ↔ (m ≡ n)
+pub same : (m n : ℕ) → (eqb m n ≡ true) ↔ (m ≡ n)
 same m n = (eqb-true m n, eq-eqb m n)
 
-differs : (m n : ℕ) → (not (eqb m n) ≡ true) ↔ (m ≡ n → ⊥)
+pub differs : (m n : ℕ) → (not (eqb m n) ≡ true) ↔ (m ≡ n → ⊥)
 differs m n = ((λ e. eqb-false m n (not-true _ e)), (λ h. ap not (ne-eqb m n h)))
 
-not-below : (m n : ℕ) → (not (ltb m n) ≡ true) ↔ (n ≤ m)
+pub not-below : (m n : ℕ) → (not (ltb m n) ≡ true) ↔ (n ≤ m)
 not-below m n = ((λ e. ltb-false m n (not-true _ e)), (λ h. ap not (le-ltb m n h)))
 
 or-four : {A B C D : Type 0} → (((A ⊎ B) ⊎ C) ⊎ D) ↔ (A ⊎ (B ⊎ (C ⊎ D)))
@@ -83,7 +83,7 @@ first-same p q e r = (
   (λ g. (e r .1 (g .0), (λ k l a. g .1 k l (e k .0 a)))),
 )
 
-with-place : {K A B : Type 0} → (A ↔ B) → (K × A) ↔ (K × B)
+pub with-place : {K A B : Type 0} → (A ↔ B) → (K × A) ↔ (K × B)
 with-place e = ((λ p. (p .0, e .0 (p .1))), (λ p. (p .0, e .1 (p .1))))
 
 sheet-applies : (s : List ℕ) (r : Refusal) → applies (sheetFaults s) r ↔ sheetStates s r

@@ -25,6 +25,14 @@ noJob = record { release = 0; deadline = 0; wanted = 0; energy = 0 }
 abbrev pub jobOf : Table → ℕ → Job
 jobOf t k = getD (t .jobs) k noJob
 
+-- "The level starts at capacity"
+abbrev pub startLevel : Table → ℕ
+startLevel t = t .capacity
+
+-- "one byte a slot, the job's number or 255 for idle": a plan's byte for an idle slot
+abbrev pub idleByte : ℕ
+idleByte = 255
+
 -- what a slot's harvest byte counts for
 abbrev pub countedAs : ℕ → ℕ
 countedAs byte = byte

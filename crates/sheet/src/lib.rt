@@ -21,6 +21,9 @@ pub const MARK_FIRST: u8 = 0x45;
 
 pub const MARK_SECOND: u8 = 0x48;
 
+// The byte of a plan for an idle slot; any other byte is the number of the slot's job.
+pub const IDLE: u8 = 255;
+
 // Running totals have an entry for each number of slots, from none to the longest day's.
 pub const TOTALS: usize = MOST_SLOTS as usize + 1;
 
@@ -76,6 +79,24 @@ pub fn wide(number: u16) -> u32
     ensures { λ r. ⌜ (r ≡ number) × (r ≤ 65535) ⌝ }
 {
     number as u32
+}
+
+// An energy, as wide.
+pub fn widened(energy: u8) -> u32
+    ensures { λ r. ⌜ (r ≡ energy) × (r ≤ 255) ⌝ }
+{
+    energy as u32
+}
+
+// The lesser of two numbers, the first of which fits a level: a level is cut at capacity.
+pub fn cut(capacity: u16, level: u32) -> u16
+    ensures { λ r. ⌜ r ≡ min capacity level ⌝ }
+{
+    if level < wide(capacity) {
+        level as u16
+    } else {
+        capacity
+    }
 }
 
 // What all the slots that a job wants cost: slots wanted × energy.

@@ -9,12 +9,12 @@ use lib.Dec.{ltb, leb}
 use lib.ListN.{getD, set}
 use borrow.Author.Tests.{lt-ltb, le-ltb, ltb-true, ltb-false}
 use Rattle.sheet.specs.Sums.{harvestAt}
-use Rattle.sheet.specs.Table.{mostJobs, jobOf}
+use Rattle.sheet.specs.Table.{mostJobs, idleByte, jobOf}
 use Rattle.sheet.specs.declared.Table.{Table}
 use Rattle.slot_run.specs.declared.State.{State}
 use Rattle.slot_run.specs.Choosing.{Choice, nobody, job, ready, chosen, deadlineOf, leftOf}
 use Rattle.slot_run.specs.Slack.{slackTime, slackEnergy, zeroOrLess, isBelow}
-use Rattle.slot_run.specs.Rules.{Ruled, idle, busy, decisionSays, atHand, ruleFor, ruleOn, decided, nextState, planByte, idleByte}
+use Rattle.slot_run.specs.Rules.{Ruled, idle, busy, decisionSays, atHand, ruleFor, ruleOn, decided, nextState, planByte}
 use Rattle.slot_run.specs.declared.BusyWhy.{BusyWhy}
 use Rattle.slot_run.specs.declared.BusyWhy.the-variants.{Full, NoSlack, Free}
 use Rattle.slot_run.specs.declared.IdleWhy.{IdleWhy}

@@ -6,7 +6,7 @@ use lib.Dec.{ltb}
 use lib.ListN.{getD, set}
 use Rattle.sheet.specs.Lists.{joined, filled}
 use Rattle.sheet.specs.Sums.{harvestAt}
-use Rattle.sheet.specs.Table.{mostJobs, jobOf}
+use Rattle.sheet.specs.Table.{mostJobs, idleByte, startLevel, jobOf}
 use Rattle.sheet.specs.declared.Table.{Table}
 use Rattle.slot_run.specs.declared.State.{State}
 use Rattle.slot_run.specs.declared.BusyWhy.the-variants.{Full, NoSlack, Free}
@@ -77,7 +77,7 @@ nextState t harvest s = stateBy t harvest s (decided t harvest s)
 
 -- "The level starts at capacity", and every job wants all its slots
 unfoldable pub firstState : Table → State
-firstState t = record { slot = 0; level = t .capacity; left = filled (λ k. jobOf t k .wanted) 0 mostJobs (t .count) }
+firstState t = record { slot = 0; level = startLevel t; left = filled (λ k. jobOf t k .wanted) 0 mostJobs (t .count) }
 
 -- the state as slot n begins
 unfoldable pub stateAt : Table → List ℕ → ℕ → State
@@ -85,9 +85,6 @@ stateAt t harvest zero = firstState t
 stateAt t harvest (suc n) = nextState t harvest (stateAt t harvest n)
 
 -- "one byte a slot, the job's number or 255 for idle"
-abbrev pub idleByte : ℕ
-idleByte = 255
-
 abbrev pub planByte : Ruled → ℕ
 planByte (idle rule) = idleByte
 planByte (busy rule k) = k

@@ -4,21 +4,18 @@ use sheet::Refusal;
 use sheet::Table;
 ghost use mathlib.Core.Path.{_≡_};
 ghost use mathlib.Core.Bool.{cond, not, _&&_, _||_};
-ghost use Prim.Native.Nat.{min, _+_, _≤_, _<_};
+ghost use Prim.Native.Nat.{_+_, _≤_, _<_};
 ghost use Rattle.sheet.specs.WellFormed.{GoodTable};
 ghost use lib.ListN.{length, getD};
 ghost use Rattle.sheet.specs.InColumns.{columnsOf, SmallCosts};
 ghost use Rattle.sheet.specs.Sums.{some, harvestAt, SmallTotals};
 ghost use lib.Dec.{ltb, leb};
-ghost use Rattle.sheet.specs.Table.{mostJobs, mostSlots, jobOf};
+ghost use Rattle.sheet.specs.Table.{mostJobs, mostSlots, idleByte, jobOf};
 ghost use Rattle.slot_run.specs.Choosing.{earliest, chosen, unfinished, deadlineOf, leftOf};
 ghost use Rattle.slot_run.specs.Slack.{zeroOrLess, slackTime};
-ghost use Rattle.slot_run.specs.Rules.{idle, busy, atHand, decisionSays, ruleFor, decided, stateBy, nextState, firstState, stateAt, planByte, idleByte, planOf};
+ghost use Rattle.slot_run.specs.Rules.{idle, busy, atHand, decisionSays, ruleFor, decided, stateBy, nextState, firstState, stateAt, planByte, planOf};
 ghost use Rattle.slot_run.specs.Promise.{Starts, Steps, unfinishedSays};
 ghost use Rattle.slot_run.specs.Steps.{chosenSays, passes, DeadlineHeld, besides, Bounded, Lent, needsChargeBy, InDay};
-
-// The plan's byte for an idle slot.
-const IDLE: u8 = 255;
 
 // A state of the run, as a slot begins: the slot, the charge level, and the slots that each job
 // still wants. What stands beyond the table's last job is never looked at, and is handed on.
@@ -89,13 +86,6 @@ pub enum Unfinished {
 enum Chosen {
     Nobody,
     Job(usize, u16),
-}
-
-// An energy, as wide.
-fn widened(energy: u8) -> u32
-    ensures { λ r. ⌜ (r ≡ energy) × (r ≤ 255) ⌝ }
-{
-    energy as u32
 }
 
 // A job is ready in the slot: released, its deadline after the slot, slots still wanted.
@@ -310,7 +300,7 @@ fn rule_for<'a>(
 {
     let price = energy[k];
     let charge = at_hand(harvest, at, s.level);
-    if charge < widened(price) {
+    if charge < sheet::widened(price) {
         return Decision::Idle(IdleWhy::Empty);
     }
     if sheet::wide(t.capacity) < charge {
@@ -363,17 +353,6 @@ fn decide<'a>(
     }
 }
 
-// The lesser of two numbers, the first of which fits a level.
-fn cut(capacity: u16, level: u32) -> u16
-    ensures { λ r. ⌜ r ≡ min capacity level ⌝ }
-{
-    if level < sheet::wide(capacity) {
-        level as u16
-    } else {
-        capacity
-    }
-}
-
 // What a slot that did this leaves: of the jobs' slots in `left`, and the level, which it answers.
 fn after<'a>(
     t: Table,
@@ -388,12 +367,12 @@ fn after<'a>(
     ensures { λ r. ⌜ (r ≡ nextState t (now (harvest .entry)) s .level) × (now (left .exit) ≡ nextState t (now (harvest .entry)) s .left) ⌝ }
 {
     match d {
-        Decision::Idle(_) => cut(t.capacity, at_hand(harvest, at, s.level)),
+        Decision::Idle(_) => sheet::cut(t.capacity, at_hand(harvest, at, s.level)),
         Decision::Busy(k, _) => {
             left[k] = left[k] - 1;
-            cut(
+            sheet::cut(
                 t.capacity,
-                at_hand(harvest, at, s.level) - widened(energy[k]),
+                at_hand(harvest, at, s.level) - sheet::widened(energy[k]),
             )
         }
     }
@@ -489,7 +468,7 @@ fn plan_byte(d: Decision) -> u8
     ensures { λ r. ⌜ r ≡ planByte (decisionSays d) ⌝ }
 {
     match d {
-        Decision::Idle(_) => IDLE,
+        Decision::Idle(_) => sheet::IDLE,
         Decision::Busy(k, _) => k as u8,
     }
 }

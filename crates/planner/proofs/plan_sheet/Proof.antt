@@ -1,8 +1,11 @@
 -- The sheet's own refusal, or the plan of the table and harvest that stand in it.
+use Rattle.reader.proofs.Harvesting.{accepts}
 use Rattle.planner.proofs.Promised.{sheet-refused, sheet-accepted}
 use borrow.Author.Needs.{needs}
 use Rattle.planner.proofs.plan_sheet.Statement.{statement}
 use Rattle.planner.proofs.plan_sheet.Tie as tie
+
+ruleset accepted = (accepts, sheet-accepted)
 
 read-requires : tie.Need-read-requires
 read-requires c κs = search needs
@@ -26,7 +29,7 @@ same-length : tie.Need-same-length
 same-length c = search needs
 
 returns-2 : tie.Need-returns-2
-returns-2 c = search sheet-accepted
+returns-2 c = search accepted
 
 pub plan-sheet-spec : {M : Type 1} → statement M
 plan-sheet-spec =

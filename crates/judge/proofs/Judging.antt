@@ -1,0 +1,162 @@
+-- Laws of a plan slot by slot: what each job got, the level, and what is said of a slot that is idle, that names no job, and that names one.
+use Prim.Native.Nat.{ℕ, zero, suc, min, _+_, _-_, _≤_, _<_}
+use mathlib.Core.Path.{_≡_, refl, sym, ap, ap₂, _∙_, subst}
+use mathlib.Core.Bool.{Bool, true, false, cond, not, _||_}
+use mathlib.Core.List.{List, [], _∷_}
+use native.Mathlib.Nat.{not-suc-le-zero}
+use native.Mathlib.Numerals.{add-one}
+use native.Mathlib.Decide.{ℕ-discrete}
+use native.Mathlib.Omega.{arith}
+use lib.Dec.{ltb, eqb}
+use lib.ListN.{length, getD, set}
+use lib.Seq.{getD-set-same, getD-set-other}
+use borrow.Author.Tests.{lt-ltb, le-ltb, eq-eqb, ne-eqb}
+use Rattle.sheet.specs.Paper.{Check, gives, refuses, refusesAt, givenAt, _else_, inOrder}
+use Rattle.sheet.specs.Sums.{total, totalOf, harvestAt}
+use Rattle.sheet.specs.Table.{mostJobs, idleByte, startLevel, jobOf}
+use Rattle.sheet.specs.declared.Table.{Table}
+use Rattle.sheet.proofs.Sums.{total-none, total-more}
+use Rattle.judge.specs.Evidence.{byteOf, namesJob, slotsGot, spentIn, levelAt}
+use Rattle.sheet.specs.declared.Job.{Job}
+use Rattle.sheet.proofs.Order.{Refuses, else-stays, else-goes-on, in-order-first, in-order-same}
+use Rattle.judge.specs.Judge.{noJob, outsideWindow, hasAllSlots, lacksCharge, jobSays, slotSays, lacksSlots}
+use Rattle.judge.specs.Promise.{faultSays}
+use Rattle.judge.specs.Steps.{findingSays, endSays, endsSay, slotsSay}
+use Rattle.judge.specs.declared.PlanFault.{PlanFault}
+use Rattle.judge.specs.declared.PlanFault.the-variants.{WrongLength, NoJob, OutsideWindow, HasAllSlots, LacksCharge, LacksSlots}
+use Rattle.judge.specs.declared.Finding.{Finding}
+use Rattle.judge.specs.declared.Finding.the-variants.{Nothing, Fault}
+
+pub given-not-refused : (n place : ℕ) → _≡_ {A = Check} (refusesAt n place) (gives tt) → ⊥
+given-not-refused n place e = subst (λ (c : Check). Refuses c) e tt
+
+-- ---- the slots that a job got
+
+pub got-none : (plan : List ℕ) (k : ℕ) → slotsGot plan k 0 ≡ 0
+unfolding slotsGot
+got-none plan k = total-none _
+
+pub got-more : (plan : List ℕ) (k i : ℕ) → slotsGot plan k (i + 1) ≡ slotsGot plan k i + cond (eqb (byteOf plan i) k) 1 0
+unfolding slotsGot
+got-more plan k i = total-more (λ n. cond (eqb (byteOf plan n) k) 1 0) i
+
+pub got-here : (plan : List ℕ) (k i : ℕ) → byteOf plan i ≡ k → slotsGot plan k (i + 1) ≡ slotsGot plan k i + 1
+got-here plan k i e = got-more plan k i ∙ ap (λ (b : Bool). slotsGot plan k i + cond b 1 0) (eq-eqb (byteOf plan i) k e)
+
+pub got-not-here : (plan : List ℕ) (k i : ℕ) → (byteOf plan i ≡ k → ⊥) → slotsGot plan k (i + 1) ≡ slotsGot plan k i
+got-not-here plan k i e =
+    let more = got-more plan k i ∙ ap (λ (b : Bool). slotsGot plan k i + cond b 1 0) (ne-eqb (byteOf plan i) k e) in
+    omega arith
+
+-- ---- the level
+
+module _ (t : Table) (harvest plan : List ℕ) where
+  pub level-first : levelAt t harvest plan 0 ≡ startLevel t
+  unfolding levelAt
+  level-first = refl
+
+  pub level-next : (i : ℕ) → levelAt t harvest plan (i + 1) ≡ min (t .capacity) (levelAt t harvest plan i + harvestAt harvest i - spentIn t plan i)
+  unfolding levelAt
+  level-next i = ap (levelAt t harvest plan) (add-one i)
+
+  -- ---- what a slot spends, and what is said of it
+
+  abbrev chargeAt : ℕ → ℕ
+  chargeAt i = levelAt t harvest plan i + harvestAt harvest i
+
+  module _ (i : ℕ) (few : t .count ≤ mostJobs) (idle : byteOf plan i ≡ idleByte) where
+    names-none : namesJob t plan i ≡ false
+    names-none = let h : t .count ≤ byteOf plan i = omega arith in le-ltb _ _ h
+
+    pub idle-says : slotSays t harvest plan i ≡ gives tt
+    unfolding slotSays noJob
+    idle-says = rw (names-none, eq-eqb _ _ idle)
+
+    pub idle-level : levelAt t harvest plan (i + 1) ≡ min (t .capacity) (chargeAt i)
+    unfolding spentIn
+    idle-level = let whole : chargeAt i - 0 ≡ chargeAt i = omega arith in level-next i ∙ rw (names-none, whole)
+
+    pub idle-got : (k : ℕ) → k < t .count → slotsGot plan k (i + 1) ≡ slotsGot plan k i
+    idle-got k h = got-not-here plan k i (λ e. omega arith)
+
+  pub stranger-says : (i : ℕ) → (byteOf plan i ≡ idleByte → ⊥) → t .count ≤ byteOf plan i → slotSays t harvest plan i ≡ refusesAt 12 i
+  unfolding slotSays noJob
+  stranger-says i busy h = rw (ne-eqb _ _ busy, le-ltb _ _ h)
+
+  module _ (i k : ℕ) (h : k < t .count) (named : byteOf plan i ≡ k) where
+    names-it : namesJob t plan i ≡ true
+    names-it = let l : byteOf plan i < t .count = omega arith in lt-ltb _ _ l
+
+    is-job : noJob t plan i ≡ false
+    unfolding noJob
+    is-job = let e = names-it in go (eqb (byteOf plan i) idleByte) e
+      where
+        go : (b : Bool) → namesJob t plan i ≡ true → not (b || namesJob t plan i) ≡ false
+        go true e = refl
+        go false e = rw e
+
+    pub busy-says : slotSays t harvest plan i ≡ jobSays (jobOf t k) i (slotsGot plan k i) (chargeAt i)
+    unfolding slotSays
+    busy-says = rw (is-job, names-it) (ap (λ (n : ℕ). jobSays (jobOf t n) i (slotsGot plan n i) (chargeAt i)) named)
+
+    pub busy-spends : spentIn t plan i ≡ jobOf t k .energy
+    unfolding spentIn
+    busy-spends = rw names-it (ap (λ (n : ℕ). jobOf t n .energy) named)
+
+    pub busy-level : levelAt t harvest plan (i + 1) ≡ min (t .capacity) (chargeAt i - jobOf t k .energy)
+    busy-level = level-next i ∙ ap (λ (n : ℕ). min (t .capacity) (chargeAt i - n)) busy-spends
+
+-- ---- what is said of a plan of which no slot before i is refused
+
+-- a slot that refuses is the answer
+pub first-refused : (t : Table) (harvest plan : List ℕ) (i : ℕ) (r : Check) → i < t .slots → inOrder (slotSays t harvest plan) i ≡ gives tt
+    → slotSays t harvest plan i ≡ r → Refuses r → slotsSay t harvest plan ≡ r
+unfolding slotsSay
+first-refused t harvest plan i r h before here is-refusal =
+    let says : inOrder (slotSays t harvest plan) (t .slots) ≡ r =
+    in-order-first (slotSays t harvest plan) i (t .slots) h before (subst Refuses (sym here) is-refusal) ∙ here in
+    let ends : Check = inOrder (λ k. givenAt 16 k (lacksSlots t plan k)) (t .count) in
+    ap (λ (x : Check). x else ends) says ∙ else-stays r ends is-refusal
+
+-- where no slot refuses, 16 decides
+pub ends-decide : (t : Table) (harvest plan got : List ℕ) → inOrder (slotSays t harvest plan) (t .slots) ≡ gives tt
+    → ((k : ℕ) → k < t .count → getD got k 0 ≡ slotsGot plan k (t .slots)) → endsSay t got ≡ slotsSay t harvest plan
+unfolding slotsSay endsSay
+ends-decide t harvest plan got clear kept =
+    in-order-same (endSays t got) (λ k. givenAt 16 k (lacksSlots t plan k)) (t .count)
+    (λ k h. ap (λ (n : ℕ). givenAt 16 k (ltb n (jobOf t k .wanted))) (kept k h))
+    ∙ sym (else-goes-on (inOrder (slotSays t harvest plan) (t .slots)) _ clear)
+
+-- a busy slot that is not refused: the job may run, lacks a slot, and can be paid
+pub job-clear : (j : Job) (i got charge : ℕ) → jobSays j i got charge ≡ gives tt
+    → (outsideWindow j i ≡ false) × (hasAllSlots j got ≡ false) × (lacksCharge j charge ≡ false)
+unfolding jobSays
+job-clear j i got charge e = go (outsideWindow j i) (hasAllSlots j got) (lacksCharge j charge) e
+  where
+    go : (a b d : Bool) → (givenAt 13 i a else givenAt 14 i b else givenAt 15 i d) ≡ gives tt → (a ≡ false) × (b ≡ false) × (d ≡ false)
+    go true b d e = absurd (given-not-refused 13 i e)
+    go false true d e = absurd (given-not-refused 14 i e)
+    go false false true e = absurd (given-not-refused 15 i e)
+    go false false false e = (refl, refl, refl)
+
+-- what is found is a refusal, and what is said where nothing is found
+pub fault-refuses : (x : Finding) (f : PlanFault) (r : Check) → x ≡ Fault f → findingSays x ≡ r → Refuses r
+fault-refuses x f r e says = subst Refuses (ap findingSays (sym e) ∙ says) (go f)
+  where
+    go : (g : PlanFault) → Refuses (faultSays g)
+    go WrongLength = tt
+    go (NoJob i) = tt
+    go (OutsideWindow i) = tt
+    go (HasAllSlots i) = tt
+    go (LacksCharge i) = tt
+    go (LacksSlots k) = tt
+
+pub nothing-gives : (x : Finding) (r : Check) → x ≡ Nothing → findingSays x ≡ r → r ≡ gives tt
+nothing-gives x r e says = sym says ∙ ap findingSays e
+
+-- ---- a byte that stands in the plan
+
+pub byte-stands : (plan : List ℕ) (i z : ℕ) → i < length plan → getD plan i z ≡ byteOf plan i
+byte-stands [] i z h = absurd (not-suc-le-zero h)
+byte-stands (x ∷ plan) zero z h = refl
+byte-stands (x ∷ plan) (suc i) z h = byte-stands plan i z (omega arith)

@@ -1,0 +1,6 @@
+pub mod ClaimKinds
+pub mod Judging
+pub mod Keeping
+pub mod PlanOrder
+pub mod Promised
+pub mod Weighing

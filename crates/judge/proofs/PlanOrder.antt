@@ -1,0 +1,328 @@
+-- The order of a plan's refusals: each slot asks four tests in turn, and the first that holds anywhere is the answer.
+use Prim.Native.Nat.{ℕ, zero, suc, _+_, _-_, _*_, _/_, _%_, _≤_, _<_}
+use mathlib.Core.Path.{_≡_, refl, sym, ap, ap₂, _∙_, subst}
+use mathlib.Core.Bool.{Bool, true, false, cond, not, _&&_}
+use mathlib.Core.List.{List}
+use mathlib.Core.Logic.{_↔_, _⊎_, inl, inr, ⊎-elim}
+use native.Mathlib.Nat.{not-suc-le-zero}
+use native.Mathlib.Decide.{decLt}
+use native.Mathlib.Omega.{arith}
+use lib.Dec.{ltb, eqb}
+use lib.ListN.{length}
+use borrow.Author.Tests.{lt-ltb, le-ltb, eq-eqb, ne-eqb}
+use Rattle.sheet.specs.Paper.{Check, gives, refuses, refusesAt, _given-when_, givenAt, _else_, inOrder}
+use Rattle.sheet.specs.Sums.{harvestAt}
+use Rattle.sheet.specs.Table.{jobOf}
+use Rattle.sheet.specs.declared.Table.{Table}
+use Rattle.sheet.proofs.Exactly.{either, never-both}
+use Rattle.sheet.proofs.Order.{Refuses, else-stays, else-goes-on, in-order-decided}
+use Rattle.judge.specs.Evidence.{byteOf, namesJob, slotsGot, levelAt}
+use Rattle.judge.specs.Judge.{noJob, outsideWindow, hasAllSlots, lacksCharge, jobSays, slotSays, lacksSlots, planSays}
+use Rattle.judge.specs.Promise.{faultSays}
+use Rattle.judge.specs.Stated.{planTurn}
+use Rattle.judge.specs.declared.PlanFault.{PlanFault}
+use Rattle.judge.specs.declared.PlanFault.the-variants.{WrongLength, NoJob, OutsideWindow, HasAllSlots, LacksCharge, LacksSlots}
+
+-- a slot's refusals by the turn that they have in it, 12 first
+abbrev pub faultAt : ℕ → ℕ → PlanFault
+faultAt zero i = NoJob i
+faultAt (suc zero) i = OutsideWindow i
+faultAt (suc (suc zero)) i = HasAllSlots i
+faultAt (suc (suc (suc m))) i = LacksCharge i
+
+fault-says : (m i : ℕ) → m < 4 → faultSays (faultAt m i) ≡ refusesAt (12 + m) i
+fault-says zero i h = refl
+fault-says (suc zero) i h = refl
+fault-says (suc (suc zero)) i h = refl
+fault-says (suc (suc (suc zero))) i h = refl
+fault-says (suc (suc (suc (suc m)))) i h = absurd (omega arith)
+
+fault-turn : (t : Table) (m i : ℕ) → m < 4 → planTurn t (faultAt m i) ≡ 4 * i + 1 + m
+fault-turn t zero i h = omega arith
+fault-turn t (suc zero) i h = omega arith
+fault-turn t (suc (suc zero)) i h = omega arith
+fault-turn t (suc (suc (suc zero))) i h = omega arith
+fault-turn t (suc (suc (suc (suc m)))) i h = absurd (omega arith)
+
+module _ (t : Table) (harvest plan : List ℕ) where
+  -- ---- the tests of a slot
+
+  pub testAt : ℕ → ℕ → Bool
+  testAt zero i = noJob t plan i
+  testAt (suc zero) i = namesJob t plan i && outsideWindow (jobOf t (byteOf plan i)) i
+  testAt (suc (suc zero)) i = namesJob t plan i && hasAllSlots (jobOf t (byteOf plan i)) (slotsGot plan (byteOf plan i) i)
+  testAt (suc (suc (suc m))) i = namesJob t plan i && lacksCharge (jobOf t (byteOf plan i)) (levelAt t harvest plan i + harvestAt harvest i)
+
+  inSlot : ℕ → ℕ → Check
+  inSlot i m = givenAt (12 + m) i (testAt m i)
+
+  four-tests : (i : ℕ) (a n b d e : Bool)
+      → (givenAt 12 i a else cond n (givenAt 13 i b else givenAt 14 i d else givenAt 15 i e) (gives tt))
+      ≡ (((givenAt 12 i a else givenAt 13 i (n && b)) else givenAt 14 i (n && d)) else givenAt 15 i (n && e))
+  four-tests i true n b d e = refl
+  four-tests i false true true d e = refl
+  four-tests i false true false true e = refl
+  four-tests i false true false false e = refl
+  four-tests i false false b d e = refl
+
+  slot-in-turn : (i : ℕ) → slotSays t harvest plan i ≡ inOrder (inSlot i) 4
+  unfolding slotSays jobSays inOrder inSlot testAt
+  slot-in-turn i =
+      four-tests i (noJob t plan i) (namesJob t plan i) (outsideWindow (jobOf t (byteOf plan i)) i)
+      (hasAllSlots (jobOf t (byteOf plan i)) (slotsGot plan (byteOf plan i) i))
+      (lacksCharge (jobOf t (byteOf plan i)) (levelAt t harvest plan i + harvestAt harvest i))
+
+  given-test : (n place : ℕ) (b : Bool) → givenAt n place b ≡ gives tt → b ≡ false
+  given-test n place true e = absurd (subst (λ (c : Check). Refuses c) e tt)
+  given-test n place false e = refl
+
+  refused-test : (n place : ℕ) (b : Bool) → Refuses (givenAt n place b) → b ≡ true
+  refused-test n place true r = refl
+  refused-test n place false r = absurd r
+
+  -- a slot refuses nothing, and no test holds; or the first that holds is the answer
+  abbrev SlotDecided : ℕ → Type 0
+  SlotDecided i =
+      (((m : ℕ) → m < 4 → testAt m i ≡ false) × (slotSays t harvest plan i ≡ gives tt))
+      ⊎ ((m : ℕ) × (m < 4) × ((n : ℕ) → n < m → testAt n i ≡ false) × (testAt m i ≡ true) × (slotSays t harvest plan i ≡ faultSays (faultAt m i)))
+
+  slot-decided : (i : ℕ) → SlotDecided i
+  unfolding inSlot
+  slot-decided i =
+      ⊎-elim
+      (λ c. inl ((λ m h. given-test (12 + m) i (testAt m i) (c .0 m h)), slot-in-turn i ∙ c .1))
+      (λ w.
+      let m = w .0 in
+      let holds = refused-test (12 + m) i (testAt m i) (w .3) in
+      inr (
+        m,
+        w .1,
+        (λ n l. given-test (12 + n) i (testAt n i) (w .2 n l)),
+        holds,
+        slot-in-turn i ∙ w .4 ∙ ap (givenAt (12 + m) i) holds ∙ sym (fault-says m i (w .1)),
+      ))
+      (in-order-decided (inSlot i) 4)
+
+  slot-clear : (i : ℕ) → slotSays t harvest plan i ≡ gives tt → (m : ℕ) → m < 4 → testAt m i ≡ false
+  slot-clear i e =
+      ⊎-elim (λ c. c .0) (λ w. absurd (subst (λ (c : Check). Refuses c) (sym (fault-says (w .0) i (w .1)) ∙ sym (w .4) ∙ e) tt)) (slot-decided i)
+
+  -- ---- a refusal applies, by itself
+
+  abbrev pub Applies : PlanFault → Type 0
+  Applies WrongLength = not (eqb (length plan) (t .slots)) ≡ true
+  Applies (NoJob i) = (i < t .slots) × (testAt 0 i ≡ true)
+  Applies (OutsideWindow i) = (i < t .slots) × (testAt 1 i ≡ true)
+  Applies (HasAllSlots i) = (i < t .slots) × (testAt 2 i ≡ true)
+  Applies (LacksCharge i) = (i < t .slots) × (testAt 3 i ≡ true)
+  Applies (LacksSlots k) = (k < t .count) × (lacksSlots t plan k ≡ true)
+
+  abbrev pub FirstIs : PlanFault → Type 0
+  FirstIs f = Applies f × ((g : PlanFault) → planTurn t g < planTurn t f → Applies g → ⊥)
+
+  at-turn : (m i : ℕ) → m < 4 → i < t .slots → testAt m i ≡ true → Applies (faultAt m i)
+  at-turn zero i h l e = (l, e)
+  at-turn (suc zero) i h l e = (l, e)
+  at-turn (suc (suc zero)) i h l e = (l, e)
+  at-turn (suc (suc (suc zero))) i h l e = (l, e)
+  at-turn (suc (suc (suc (suc m)))) i h l e = absurd (omega arith)
+
+  abbrev pub Decided : Type 0
+  Decided =
+      ((planSays t harvest plan ≡ gives tt) × ((f : PlanFault) → Applies f → ⊥))
+      ⊎ ((f : PlanFault) × (planSays t harvest plan ≡ faultSays f) × FirstIs f)
+
+  given-eleven : not (eqb (length plan) (t .slots)) ≡ true → Decided
+  unfolding planSays
+  given-eleven e = inr (WrongLength, rw e, (e, none))
+    where
+      none : (g : PlanFault) → planTurn t g < 0 → Applies g → ⊥
+      none g h a = omega arith
+
+  module _ (fits : not (eqb (length plan) (t .slots)) ≡ false) where
+    says-rest : planSays t harvest plan ≡ (inOrder (slotSays t harvest plan) (t .slots) else inOrder (λ k. givenAt 16 k (lacksSlots t plan k)) (t .count))
+    unfolding planSays
+    says-rest = rw fits
+
+    -- the slots before i are clear, and so are the tests of slot i before the m-th
+    module _ (i m : ℕ) (clean : (j : ℕ) → j < i → (n : ℕ) → n < 4 → testAt n j ≡ false) (lower : (n : ℕ) → n < m → testAt n i ≡ false) where
+      not-earlier : (n j : ℕ) → n < 4 → 4 * j + 1 + n < 4 * i + 1 + m → m < 4 → testAt n j ≡ true → ⊥
+      not-earlier n j small h few e =
+          elim (decLt j i) [
+            | yes l ↦ never-both e (clean j l n small)
+            | no l ↦ let same : i ≡ j = omega arith in never-both e (subst (λ (s : ℕ). testAt n s ≡ false) same (lower n (omega arith)))
+          ]
+
+      none-before : m < 4 → (g : PlanFault) → planTurn t g < 4 * i + 1 + m → i < t .slots → Applies g → ⊥
+      none-before few WrongLength h l a = never-both a fits
+      none-before few (NoJob j) h l a = not-earlier 0 j (omega arith) (omega arith) few (a .1)
+      none-before few (OutsideWindow j) h l a = not-earlier 1 j (omega arith) (omega arith) few (a .1)
+      none-before few (HasAllSlots j) h l a = not-earlier 2 j (omega arith) (omega arith) few (a .1)
+      none-before few (LacksCharge j) h l a = not-earlier 3 j (omega arith) (omega arith) few (a .1)
+      none-before few (LacksSlots k) h l a = omega arith
+
+    given-slot : (i m : ℕ) → i < t .slots → m < 4 → ((j : ℕ) → j < i → slotSays t harvest plan j ≡ gives tt) → ((n : ℕ) → n < m → testAt n i ≡ false)
+        → testAt m i ≡ true → planSays t harvest plan ≡ faultSays (faultAt m i) → Decided
+    given-slot i m l few before lower holds says =
+        inr (
+          faultAt m i,
+          says,
+          (
+            at-turn m i few l holds,
+            (λ g h a.
+                none-before i m (λ j s. slot-clear j (before j s)) lower few g (subst (λ (n : ℕ). planTurn t g < n) (fault-turn t m i few) h) l a),
+          ),
+        )
+
+    module _ (clear : (i : ℕ) → i < t .slots → slotSays t harvest plan i ≡ gives tt) where
+      no-slot : (m i : ℕ) → m < 4 → i < t .slots → testAt m i ≡ true → ⊥
+      no-slot m i few l e = never-both e (slot-clear i (clear i l) m few)
+
+      none-at-all : ((k : ℕ) → k < t .count → lacksSlots t plan k ≡ false) → (g : PlanFault) → Applies g → ⊥
+      none-at-all ends WrongLength a = never-both a fits
+      none-at-all ends (NoJob j) a = no-slot 0 j (omega arith) (a .0) (a .1)
+      none-at-all ends (OutsideWindow j) a = no-slot 1 j (omega arith) (a .0) (a .1)
+      none-at-all ends (HasAllSlots j) a = no-slot 2 j (omega arith) (a .0) (a .1)
+      none-at-all ends (LacksCharge j) a = no-slot 3 j (omega arith) (a .0) (a .1)
+      none-at-all ends (LacksSlots k) a = never-both (a .1) (ends k (a .0))
+
+      none-below : (k : ℕ) → ((j : ℕ) → j < k → lacksSlots t plan j ≡ false) → (g : PlanFault) → planTurn t g < 4 * t .slots + 1 + k → Applies g → ⊥
+      none-below k ends WrongLength h a = never-both a fits
+      none-below k ends (NoJob j) h a = no-slot 0 j (omega arith) (a .0) (a .1)
+      none-below k ends (OutsideWindow j) h a = no-slot 1 j (omega arith) (a .0) (a .1)
+      none-below k ends (HasAllSlots j) h a = no-slot 2 j (omega arith) (a .0) (a .1)
+      none-below k ends (LacksCharge j) h a = no-slot 3 j (omega arith) (a .0) (a .1)
+      none-below k ends (LacksSlots j) h a = never-both (a .1) (ends j (omega arith))
+
+      by-ends : inOrder (slotSays t harvest plan) (t .slots) ≡ gives tt → Decided
+      by-ends says =
+          let rest = says-rest ∙ else-goes-on (inOrder (slotSays t harvest plan) (t .slots)) (inOrder (λ k. givenAt 16 k (lacksSlots t plan k)) (t .count)) says in
+          ⊎-elim
+          (λ c. inl (rest ∙ c .1, none-at-all (λ k h. given-test 16 k (lacksSlots t plan k) (c .0 k h))))
+          (λ w.
+          let k = w .0 in
+          let holds = refused-test 16 k (lacksSlots t plan k) (w .3) in
+          inr (
+            LacksSlots k,
+            rest ∙ w .4 ∙ ap (givenAt 16 k) holds,
+            ((w .1, holds), none-below k (λ j l. given-test 16 j (lacksSlots t plan j) (w .2 j l))),
+          ))
+          (in-order-decided (λ k. givenAt 16 k (lacksSlots t plan k)) (t .count))
+
+    by-slot : (i : ℕ) → i < t .slots → ((j : ℕ) → j < i → slotSays t harvest plan j ≡ gives tt) → Refuses (slotSays t harvest plan i)
+        → inOrder (slotSays t harvest plan) (t .slots) ≡ slotSays t harvest plan i → Decided
+    by-slot i l before refused says =
+        ⊎-elim
+        (λ c. absurd (subst Refuses (c .1) refused))
+        (λ w.
+        given-slot i (w .0) l (w .1) before (w .2) (w .3)
+        (says-rest
+        ∙ ap (λ (c : Check). c else inOrder (λ k. givenAt 16 k (lacksSlots t plan k)) (t .count)) says
+        ∙ else-stays (slotSays t harvest plan i) _ refused
+        ∙ w .4))
+        (slot-decided i)
+
+  -- nothing applies, and the plan is accepted; or what applies first is the answer
+  pub decided : Decided
+  decided =
+      ⊎-elim given-eleven
+      (λ fits.
+      ⊎-elim
+      (λ c. by-ends fits (c .0) (c .1))
+      (λ w. by-slot fits (w .0) (w .1) (w .2) (w .3) (w .4))
+      (in-order-decided (slotSays t harvest plan) (t .slots)))
+      (either (not (eqb (length plan) (t .slots))))
+
+  -- ---- at most one refusal is the first
+
+  atTurn : ℕ → PlanFault
+  atTurn n =
+      cond (eqb n 0) WrongLength
+      (cond (ltb n (4 * t .slots + 1)) (faultAt ((n - 1) % 4) ((n - 1) / 4)) (LacksSlots (n - (4 * t .slots + 1))))
+
+  slot-back : (m i : ℕ) → m < 4 → i < t .slots → atTurn (4 * i + 1 + m) ≡ faultAt m i
+  unfolding atTurn
+  slot-back m i few l =
+      let h : 4 * i + 1 + m < 4 * t .slots + 1 = omega arith in
+      let which : (4 * i + 1 + m - 1) % 4 ≡ m = omega arith in
+      let where-it-is : (4 * i + 1 + m - 1) / 4 ≡ i = omega arith in
+      rw (ne-eqb (4 * i + 1 + m) 0 (λ e. omega arith), lt-ltb _ _ h, which, where-it-is)
+
+  turn-back : (f : PlanFault) → Applies f → atTurn (planTurn t f) ≡ f
+  unfolding atTurn
+  turn-back WrongLength a = refl
+  turn-back (NoJob i) a = ap atTurn (fault-turn t 0 i (omega arith)) ∙ slot-back 0 i (omega arith) (a .0)
+  turn-back (OutsideWindow i) a = ap atTurn (fault-turn t 1 i (omega arith)) ∙ slot-back 1 i (omega arith) (a .0)
+  turn-back (HasAllSlots i) a = ap atTurn (fault-turn t 2 i (omega arith)) ∙ slot-back 2 i (omega arith) (a .0)
+  turn-back (LacksCharge i) a = ap atTurn (fault-turn t 3 i (omega arith)) ∙ slot-back 3 i (omega arith) (a .0)
+  turn-back (LacksSlots k) a =
+      let h : 4 * t .slots + 1 ≤ 4 * t .slots + 1 + k = omega arith in
+      let which : 4 * t .slots + 1 + k - (4 * t .slots + 1) ≡ k = omega arith in
+      rw (ne-eqb (4 * t .slots + 1 + k) 0 (λ e. omega arith), le-ltb _ _ h, which)
+
+  first-one : (f g : PlanFault) → FirstIs f → FirstIs g → f ≡ g
+  first-one f g a b =
+      elim (decLt (planTurn t f) (planTurn t g)) [
+        | yes l ↦ absurd (b .1 f l (a .0))
+        | no l ↦
+            elim (decLt (planTurn t g) (planTurn t f)) [
+              | yes m ↦ absurd (a .1 g m (b .0))
+              | no m ↦
+                  let same : planTurn t f ≡ planTurn t g = omega arith in
+                  sym (turn-back f (a .0)) ∙ ap atTurn same ∙ turn-back g (b .0)
+            ]
+      ]
+
+-- ---- a refusal is told by its number and place
+
+faultMeant : Check → PlanFault
+faultMeant (gives x) = WrongLength
+faultMeant (refuses n) = WrongLength
+faultMeant (refusesAt n k) =
+    cond (eqb n 12) (NoJob k) (cond (eqb n 13) (OutsideWindow k) (cond (eqb n 14) (HasAllSlots k) (cond (eqb n 15) (LacksCharge k) (LacksSlots k))))
+
+fault-meant : (f : PlanFault) → faultMeant (faultSays f) ≡ f
+unfolding faultMeant
+fault-meant WrongLength = refl
+fault-meant (NoJob i) = refl
+fault-meant (OutsideWindow i) = refl
+fault-meant (HasAllSlots i) = refl
+fault-meant (LacksCharge i) = refl
+fault-meant (LacksSlots k) = refl
+
+-- two refusals that the paper writes alike are one
+pub fault-one : (f g : PlanFault) → faultSays f ≡ faultSays g → f ≡ g
+fault-one f g e = sym (fault-meant f) ∙ ap faultMeant e ∙ fault-meant g
+
+pub fault-not-given : (f : PlanFault) → faultSays f ≡ gives tt → ⊥
+fault-not-given f e = go f e
+  where
+    go : (g : PlanFault) → faultSays g ≡ gives tt → ⊥
+    go WrongLength p = subst (λ (c : Check). Refuses c) p tt
+    go (NoJob i) p = subst (λ (c : Check). Refuses c) p tt
+    go (OutsideWindow i) p = subst (λ (c : Check). Refuses c) p tt
+    go (HasAllSlots i) p = subst (λ (c : Check). Refuses c) p tt
+    go (LacksCharge i) p = subst (λ (c : Check). Refuses c) p tt
+    go (LacksSlots k) p = subst (λ (c : Check). Refuses c) p tt
+
+-- ---- exactly when
+
+pub refused-exactly : (t : Table) (harvest plan : List ℕ) (f : PlanFault) → (planSays t harvest plan ≡ faultSays f) ↔ FirstIs t harvest plan f
+refused-exactly t harvest plan f = (
+  (λ e.
+      ⊎-elim
+      (λ c. absurd (fault-not-given f (sym e ∙ c .0)))
+      (λ w. subst (FirstIs t harvest plan) (fault-one (w .0) f (sym (w .1) ∙ e)) (w .2))
+      (decided t harvest plan)),
+  (λ first.
+      ⊎-elim
+      (λ c. absurd (c .1 f (first .0)))
+      (λ w. w .1 ∙ ap faultSays (first-one t harvest plan (w .0) f (w .2) first))
+      (decided t harvest plan)),
+)
+
+pub accepted-when-clear : (t : Table) (harvest plan : List ℕ) → (planSays t harvest plan ≡ gives tt) ↔ ((f : PlanFault) → Applies t harvest plan f → ⊥)
+accepted-when-clear t harvest plan = (
+  (λ e. ⊎-elim (λ c. c .1) (λ w. absurd (fault-not-given (w .0) (sym (w .1) ∙ e))) (decided t harvest plan)),
+  (λ none. ⊎-elim (λ c. c .0) (λ w. absurd (none (w .0) (w .2 .0))) (decided t harvest plan)),
+)

@@ -1,0 +1,27 @@
+-- What is weighed, job by job.
+use Prim.Native.Nat.{ℕ, _*_}
+use mathlib.Core.Path.{_≡_, refl, sym, ap, ap₂, _∙_}
+use mathlib.Core.Bool.{Bool, cond}
+use Rattle.sheet.specs.Sums.{total}
+use Rattle.sheet.specs.Table.{jobOf}
+use Rattle.sheet.specs.declared.Job.{Job}
+use Rattle.sheet.specs.declared.Table.{Table}
+use Rattle.demand.specs.Demand.{within, timeDemand, energyDemand, demandOf}
+use Rattle.demand.specs.declared.Kind.{Kind}
+use Rattle.demand.specs.declared.Kind.the-variants.{Time, Energy}
+use Rattle.judge.specs.Steps.{shareOf}
+
+-- what job k adds to the demand of an interval
+abbrev pub partOf : Kind → Table → ℕ → ℕ → ℕ → ℕ
+partOf kind t from to k = cond (within from to (jobOf t k)) (shareOf kind (jobOf t k)) 0
+
+-- the same, as the code reads it
+pub part-read : (kind : Kind) (t : Table) (from to k part share : ℕ) (counts : Bool) → counts ≡ within from to (jobOf t k) → share ≡ shareOf kind (jobOf t k)
+    → part ≡ cond counts share 0 → part ≡ partOf kind t from to k
+part-read kind t from to k part share counts w s e = e ∙ ap₂ (λ (b : Bool) (x : ℕ). cond b x 0) w s
+
+-- the demand of an interval is the sum over all jobs
+pub demand-is : (kind : Kind) (t : Table) (from to : ℕ) → total (partOf kind t from to) (t .count) ≡ demandOf kind t from to
+unfolding timeDemand energyDemand
+demand-is Time t from to = refl
+demand-is Energy t from to = refl

@@ -1,0 +1,85 @@
+-- The loop keeps: no job before k lacks slots. The first that does is the answer.
+use Prim.Native.Nat.{ℕ, _≤_, _<_, _-_}
+use mathlib.Core.Path.{_≡_, refl, sym, ap, _∙_, subst}
+use native.Mathlib.Omega.{arith}
+use lib.Dec.{ltb}
+use lib.ListN.{getD}
+use borrow.Author.Tests.{lt-ltb, le-ltb}
+use Rattle.sheet.specs.Paper.{Check, gives, refusesAt, givenAt, inOrder}
+use Rattle.sheet.specs.Table.{jobOf}
+use Rattle.sheet.proofs.Order.{in-order-none, in-order-clear, in-order-first, Refuses}
+use Rattle.judge.specs.Steps.{endSays, endsSay}
+use borrow.Author.Needs.{needs}
+use Rattle.judge.proofs.judge_ends.Statement.{statement}
+use Rattle.judge.proofs.judge_ends.Tie as tie
+
+abbrev Inv-loop : tie.InvT-loop
+Inv-loop got t count k₀ k = (count ≡ t .count) × (k ≤ count) × (inOrder (endSays t got) k ≡ gives tt)
+
+abbrev μ-loop : tie.MeasureT-loop
+μ-loop got t count k₀ k = count - k
+
+loop-holds : tie.Need-loop-holds Inv-loop μ-loop
+loop-holds c = (refl, search needs, in-order-none _)
+
+mul-if1 : tie.Need-mul-if1 Inv-loop μ-loop
+mul-if1 c = search needs
+
+element-copy-out-if1 : tie.Need-element-copy-out-if1 Inv-loop μ-loop
+element-copy-out-if1 c = search needs
+
+mul-if1-2 : tie.Need-mul-if1-2 Inv-loop μ-loop
+mul-if1-2 c = search needs
+
+element-copy-out-if1-2 : tie.Need-element-copy-out-if1-2 Inv-loop μ-loop
+element-copy-out-if1-2 c = search needs
+
+returns : tie.Need-returns Inv-loop μ-loop
+unfolding endsSay
+returns c =
+    let at-loop = c .before .before .before in
+    let t = at-loop .before .args .t1 in
+    let got = at-loop .before .args .got .now in
+    let k = at-loop .loop .k in
+    let lacks = lt-ltb (getD got k 0) (jobOf t k .wanted) (c .if1 .taken) in
+    let says : endSays t got k ≡ refusesAt 16 k = ap (givenAt 16 k) lacks in
+    sym (in-order-first (endSays t got) k (t .count) (c .before .before .loop-test .taken) (at-loop .loop .inv .2) (subst Refuses (sym says) tt) ∙ says)
+
+add-k : tie.Need-add-k Inv-loop μ-loop
+add-k c = search needs
+
+loop-less : tie.Need-loop-less Inv-loop μ-loop
+loop-less c = search needs
+
+loop-again : tie.Need-loop-again Inv-loop μ-loop
+loop-again c =
+    let at-loop = c .before .before .before in
+    let t = at-loop .before .args .t1 in
+    let got = at-loop .before .args .got .now in
+    let k = at-loop .loop .k in
+    let fine = le-ltb (getD got k 0) (jobOf t k .wanted) (c .if1 .left) in
+    (refl, search needs, in-order-clear (endSays t got) k (at-loop .loop .inv .2) (ap (givenAt 16 k) fine))
+
+returns-2 : tie.Need-returns-2 Inv-loop μ-loop
+unfolding endsSay
+returns-2 c =
+    let args = c .before .before .args in
+    let at-end : c .before .loop .k ≡ args .t1 .count = omega arith in
+    sym (ap (inOrder (endSays (args .t1) (args .got .now))) (sym at-end) ∙ c .before .loop .inv .2)
+
+pub judge-ends-spec : {M : Type 1} → statement M
+judge-ends-spec =
+    tie.close
+    (tie.spec
+    Inv-loop
+    μ-loop
+    loop-holds
+    mul-if1
+    element-copy-out-if1
+    mul-if1-2
+    element-copy-out-if1-2
+    returns
+    add-k
+    loop-less
+    loop-again
+    returns-2)

@@ -1,0 +1,5 @@
+pub mod Evidence
+pub mod Judge
+pub mod Promise
+pub mod Stated
+pub mod Steps

@@ -1,0 +1,312 @@
+// The judge of evidence: a plan or an interval, from anyone, is accepted exactly when it is good. It
+// knows the sheet and what demand is, and nothing of the run or the planner.
+use demand::Kind;
+use sheet::Job;
+use sheet::Outcome;
+use sheet::Refusal;
+use sheet::Table;
+ghost use mathlib.Core.Path.{_≡_};
+ghost use mathlib.Core.Bool.{_&&_};
+ghost use lib.Dec.{ltb, leb};
+ghost use lib.ListN.{length};
+ghost use Prim.Native.Nat.{_<_, _≤_};
+ghost use Rattle.sheet.specs.InColumns.{mostCost};
+ghost use Rattle.sheet.specs.Sums.{harvestOf, mostHarvest};
+ghost use Rattle.sheet.specs.Table.{mostJobs, mostSlots};
+ghost use Rattle.sheet.specs.WellFormed.{GoodTable};
+ghost use Rattle.demand.specs.Demand.{demandOf};
+ghost use Rattle.judge.specs.Judge.{jobSays, planSays, claimFault, kindOf, weightsOf};
+ghost use Rattle.judge.specs.Promise.{planAnswered, sumsSay, JudgesTablePlan, JudgesSheetPlan, JudgesTableClaim, JudgesSheetClaim};
+ghost use Rattle.judge.specs.Steps.{findingSays, endsSay, slotsSay, shareOf, ClaimJudged};
+
+// Why a plan is refused, with the slot, and for 16 the job, that document 01 names.
+pub enum PlanFault {
+    // 11: the plan is not of slots bytes
+    WrongLength,
+    // 12: this slot's byte is neither 255 nor a job's number
+    NoJob(usize),
+    // 13: this slot's job may not run in it
+    OutsideWindow(usize),
+    // 14: this slot's job already has all its slots
+    HasAllSlots(usize),
+    // 15: level plus harvest of this slot is below its job's energy
+    LacksCharge(usize),
+    // 16: after the last slot this job lacks slots; it is the lowest such job
+    LacksSlots(usize),
+}
+
+// The answer to a plan.
+pub enum JudgedPlan {
+    // The sheet, the table or the harvest is refused: 1 to 6.
+    Refused(Refusal),
+    // The plan is refused: 11 to 16.
+    Faulty(PlanFault),
+    // Every job gets its slots inside its window, no more and no fewer, every slot is idle or names
+    // a job, and no busy slot lacks charge.
+    Accepted,
+}
+
+// What was weighed: the demand and the supply of the claimed interval, in the claimed kind.
+pub struct Sums {
+    pub demand: u32,
+    pub supply: u32,
+}
+
+// The answer to a claim.
+pub enum JudgedClaim {
+    // The sheet, the table or the harvest is refused: 1 to 6.
+    Refused(Refusal),
+    // 17: the kind is neither 0 nor 1, the start is not below the end, or the end is above slots.
+    NoInterval,
+    // 18: the demand is not above the supply.
+    NotOverloaded(Sums),
+    // The demand is above the supply.
+    Accepted(Sums),
+}
+
+// What is found of a part of a plan.
+enum Finding {
+    Nothing,
+    Fault(PlanFault),
+}
+
+// A job may run in the slots from its release up to, not including, its deadline.
+fn may_run(j: Job, slot: usize) -> bool
+    ensures { λ r. ⌜ r ≡ (leb (j .release) slot && ltb slot (j .deadline)) ⌝ }
+{
+    if slot < j.release as usize {
+        return false;
+    }
+    slot < j.deadline as usize
+}
+
+// A busy slot: 13, 14 and 15 for its job, which got so many slots before and finds that much charge.
+fn judge_job(j: Job, slot: usize, got: u16, charge: u32) -> Finding
+    ensures { λ r. ⌜ findingSays r ≡ jobSays j slot got charge ⌝ }
+{
+    if !may_run(j, slot) {
+        return Finding::Fault(PlanFault::OutsideWindow(slot));
+    }
+    if j.wanted <= got {
+        return Finding::Fault(PlanFault::HasAllSlots(slot));
+    }
+    if charge < sheet::widened(j.energy) {
+        return Finding::Fault(PlanFault::LacksCharge(slot));
+    }
+    Finding::Nothing
+}
+
+// 16: the lowest job that got fewer slots than it wants. The table has at most 64 jobs.
+fn judge_ends(t: Table, got: &[u16; sheet::MOST_JOBS]) -> Finding
+    requires { ⌜ t .count ≤ mostJobs ⌝ }
+    ensures { λ r. ⌜ findingSays r ≡ endsSay t (now (got .entry)) ⌝ }
+{
+    let count = t.count;
+    let mut k = 0;
+    while k < count {
+        if got[k] < t.jobs[k].wanted {
+            return Finding::Fault(PlanFault::LacksSlots(k));
+        }
+        k += 1;
+    }
+    Finding::Nothing
+}
+
+// 12 to 16, in one pass over a plan of slots bytes: the slots that each job got so far and the level
+// are carried along. The table and the harvest were checked.
+fn judge_slots(t: Table, harvest: &[u8], plan: &[u8]) -> Finding
+    requires { ⌜ GoodTable t (now harvest) × (length (now plan) ≡ t .slots) ⌝ }
+    ensures { λ r. ⌜ findingSays r ≡ slotsSay t (now (harvest .entry)) (now (plan .entry)) ⌝ }
+{
+    let count = t.count;
+    let mut got = [0u16; sheet::MOST_JOBS];
+    let mut level = t.capacity;
+    for i in 0..plan.len() {
+        let byte = plan[i];
+        let charge = sheet::wide(level) + sheet::wide(sheet::counted(harvest[i]));
+        if byte == sheet::IDLE {
+            level = sheet::cut(t.capacity, charge);
+            continue;
+        }
+        let k = byte as usize;
+        if count <= k {
+            return Finding::Fault(PlanFault::NoJob(i));
+        }
+        let j = t.jobs[k];
+        let found = judge_job(j, i, got[k], charge);
+        if let Finding::Fault(_) = found {
+            return found;
+        }
+        got[k] = got[k] + 1;
+        level = sheet::cut(t.capacity, charge - sheet::widened(j.energy));
+    }
+    judge_ends(t, &got)
+}
+
+// 11 to 16, for a table and a harvest that were checked.
+fn judge_plan(t: Table, harvest: &[u8], plan: &[u8]) -> JudgedPlan
+    requires { ⌜ GoodTable t (now harvest) ⌝ }
+    ensures { λ r. ⌜ planAnswered r ≡ planSays t (now (harvest .entry)) (now (plan .entry)) ⌝ }
+{
+    if plan.len() != t.slots as usize {
+        return JudgedPlan::Faulty(PlanFault::WrongLength);
+    }
+    match judge_slots(t, harvest, plan) {
+        Finding::Nothing => JudgedPlan::Accepted,
+        Finding::Fault(fault) => JudgedPlan::Faulty(fault),
+    }
+}
+
+// Judges a plan, one byte a slot, the job's number or 255 for idle, against a table and its harvest.
+// It takes any table, harvest and plan; it refuses 3, 4, 5 and 6 as every call does, then the plan by
+// 11 to 16, and otherwise accepts it.
+pub fn plan_on_table(t: Table, harvest: &[u8], plan: &[u8]) -> JudgedPlan
+    ensures { λ r. ⌜ JudgesTablePlan t (now (harvest .entry)) (now (plan .entry)) r ⌝ }
+{
+    let outcome = sheet::check(t, harvest);
+    if let Outcome::Refused(why) = outcome {
+        return JudgedPlan::Refused(why);
+    }
+    judge_plan(t, harvest, plan)
+}
+
+// Judges a plan against a sheet, from any bytes: the same, with the sheet's own refusals 1 to 6 first.
+pub fn plan_on_sheet(bytes: &[u8], plan: &[u8]) -> JudgedPlan
+    ensures { λ r. ⌜ JudgesSheetPlan (now (bytes .entry)) (now (plan .entry)) r ⌝ }
+{
+    let reading = reader::read(bytes);
+    let outcome = reading.outcome;
+    if let Outcome::Refused(why) = outcome {
+        return JudgedPlan::Refused(why);
+    }
+    let t = reading.table;
+    let harvest = reader::stretch(bytes, t.count, t.slots);
+    judge_plan(t, harvest, plan)
+}
+
+// The kinds of a claim, by their numbers.
+const TIME: u64 = 0;
+
+const ENERGY: u64 = 1;
+
+// 17 applies: the kind is neither 0 nor 1, the start is not below the end, or the end is above slots.
+fn claim_fault(slots: u16, kind: u64, start: u64, end: u64) -> bool
+    ensures { λ r. ⌜ r ≡ claimFault slots kind start end ⌝ }
+{
+    if ENERGY < kind {
+        return true;
+    }
+    if end <= start {
+        return true;
+    }
+    (slots as u64) < end
+}
+
+// The kind of that number, 0 or 1.
+fn kind_of(kind: u64) -> Kind
+    ensures { λ r. ⌜ r ≡ kindOf kind ⌝ }
+{
+    if kind == TIME {
+        Kind::Time
+    } else {
+        Kind::Energy
+    }
+}
+
+// What a job of an interval adds to its demand: its slots wanted, or what they cost.
+fn share(kind: Kind, j: Job) -> u32
+    ensures { λ r. ⌜ (r ≡ shareOf kind j) × (r ≤ mostCost) ⌝ }
+{
+    match kind {
+        Kind::Time => sheet::wide(j.wanted),
+        Kind::Energy => sheet::cost(j.wanted, j.energy),
+    }
+}
+
+// The demand of an interval, in one kind. The table has at most 64 jobs.
+fn demand_of(t: Table, kind: Kind, from: u16, to: u16) -> u32
+    requires { ⌜ t .count ≤ mostJobs ⌝ }
+    ensures { λ r. ⌜ r ≡ demandOf kind t from to ⌝ }
+{
+    let count = t.count;
+    let mut demand: u32 = 0;
+    let mut k = 0;
+    while k < count {
+        let j = t.jobs[k];
+        let counts = demand::is_within(from, to, j.release, j.deadline);
+        demand += demand::counted_if(counts, share(kind, j));
+        k += 1;
+    }
+    demand
+}
+
+// The harvest of the slots from .. to - 1, of a harvest of at most 1,440 bytes.
+fn harvest_of(harvest: &[u8], from: usize, to: usize) -> u32
+    requires { ⌜ (from ≤ to) × (to ≤ length (now harvest)) × (to ≤ mostSlots) ⌝ }
+    ensures { λ r. ⌜ (r ≡ harvestOf (now (harvest .entry)) from to) × (r ≤ mostHarvest) ⌝ }
+{
+    let mut sum: u32 = 0;
+    let mut i = from;
+    while i < to {
+        sum += sheet::wide(sheet::counted(harvest[i]));
+        i += 1;
+    }
+    sum
+}
+
+// The demand and the supply of an interval of the day, in one kind. The table and the harvest were
+// checked.
+fn weigh(t: Table, harvest: &[u8], kind: Kind, from: u16, to: u16) -> Sums
+    requires { ⌜ GoodTable t (now harvest) × (from < to) × (to ≤ t .slots) ⌝ }
+    ensures { λ r. ⌜ sumsSay r ≡ weightsOf kind t (now (harvest .entry)) from to ⌝ }
+{
+    let demand = demand_of(t, kind, from, to);
+    let supply = match kind {
+        Kind::Time => sheet::wide(to - from),
+        Kind::Energy => sheet::wide(t.capacity) + harvest_of(harvest, from as usize, to as usize),
+    };
+    Sums { demand, supply }
+}
+
+// 17 and 18, for a table and a harvest that were checked.
+fn judge_claim(t: Table, harvest: &[u8], kind: u64, start: u64, end: u64) -> JudgedClaim
+    requires { ⌜ GoodTable t (now harvest) ⌝ }
+    ensures { λ r. ⌜ ClaimJudged t (now (harvest .entry)) kind start end r ⌝ }
+{
+    if claim_fault(t.slots, kind, start, end) {
+        return JudgedClaim::NoInterval;
+    }
+    let sums = weigh(t, harvest, kind_of(kind), start as u16, end as u16);
+    if sums.supply < sums.demand {
+        JudgedClaim::Accepted(sums)
+    } else {
+        JudgedClaim::NotOverloaded(sums)
+    }
+}
+
+// Judges a claim, that the slots from `start` up to, not including, `end` are overloaded in a kind, 0
+// for time and 1 for energy, against a table and its harvest. Any three numbers are taken; it refuses
+// 3, 4, 5 and 6 as every call does, then 17 and 18, and otherwise accepts the claim.
+pub fn claim_on_table(t: Table, harvest: &[u8], kind: u64, start: u64, end: u64) -> JudgedClaim
+    ensures { λ r. ⌜ JudgesTableClaim t (now (harvest .entry)) kind start end r ⌝ }
+{
+    let outcome = sheet::check(t, harvest);
+    if let Outcome::Refused(why) = outcome {
+        return JudgedClaim::Refused(why);
+    }
+    judge_claim(t, harvest, kind, start, end)
+}
+
+// Judges a claim against a sheet, from any bytes: the same, with the sheet's own refusals 1 to 6 first.
+pub fn claim_on_sheet(bytes: &[u8], kind: u64, start: u64, end: u64) -> JudgedClaim
+    ensures { λ r. ⌜ JudgesSheetClaim (now (bytes .entry)) kind start end r ⌝ }
+{
+    let reading = reader::read(bytes);
+    let outcome = reading.outcome;
+    if let Outcome::Refused(why) = outcome {
+        return JudgedClaim::Refused(why);
+    }
+    let t = reading.table;
+    let harvest = reader::stretch(bytes, t.count, t.slots);
+    judge_claim(t, harvest, kind, start, end)
+}
