@@ -1,6 +1,8 @@
+pub mod Acceptable
 pub mod ClaimKinds
 pub mod Judging
 pub mod Keeping
 pub mod PlanOrder
 pub mod Promised
+pub mod Theorems
 pub mod Weighing

@@ -47,7 +47,7 @@ fault-turn t (suc (suc (suc (suc m)))) i h = absurd (omega arith)
 module _ (t : Table) (harvest plan : List ℕ) where
   -- ---- the tests of a slot
 
-  pub testAt : ℕ → ℕ → Bool
+  unfoldable pub testAt : ℕ → ℕ → Bool
   testAt zero i = noJob t plan i
   testAt (suc zero) i = namesJob t plan i && outsideWindow (jobOf t (byteOf plan i)) i
   testAt (suc (suc zero)) i = namesJob t plan i && hasAllSlots (jobOf t (byteOf plan i)) (slotsGot plan (byteOf plan i) i)

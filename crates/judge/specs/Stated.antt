@@ -8,6 +8,9 @@ use lib.ListN.{length}
 use Rattle.sheet.specs.Sums.{harvestAt}
 use Rattle.sheet.specs.Table.{idleByte, jobOf}
 use Rattle.sheet.specs.declared.Table.{Table}
+use Rattle.demand.specs.Demand.{kindNumber, demandOf, supplyOf}
+use Rattle.demand.specs.declared.Kind.{Kind}
+use Rattle.demand.specs.declared.Kind.the-variants.{Time, Energy}
 use Rattle.judge.specs.Evidence.{byteOf, slotsGot, levelAt}
 use Rattle.judge.specs.declared.PlanFault.{PlanFault}
 use Rattle.judge.specs.declared.PlanFault.the-variants.{WrongLength, NoJob, OutsideWindow, HasAllSlots, LacksCharge, LacksSlots}
@@ -43,4 +46,10 @@ PlanGivenFirst t harvest plan f =
 
 -- 17: claim's kind neither 0 (time) nor 1 (energy), start not below end, or end above slots
 abbrev pub ClaimStated : ℕ → ℕ → ℕ → ℕ → Type 0
-ClaimStated slots number from to = ((number ≡ 0 → ⊥) × (number ≡ 1 → ⊥)) ⊎ ((to ≤ from) ⊎ (slots < to))
+ClaimStated slots number from to =
+    ((number ≡ kindNumber Time → ⊥) × (number ≡ kindNumber Energy → ⊥)) ⊎ ((to ≤ from) ⊎ (slots < to))
+
+-- 18: claimed interval is not overloaded in the claimed kind
+abbrev pub NotOverloadedStated : Table → List ℕ → (number from to : ℕ) → Type 0
+NotOverloadedStated t harvest number from to =
+    (kind : Kind) × (kindNumber kind ≡ number) × (demandOf kind t from to ≤ supplyOf kind t harvest from to)

@@ -1,3 +1,2 @@
-pub mod Days
 pub mod Promised
 pub mod Theorems

@@ -2,7 +2,7 @@
 use Prim.Native.Nat.{ℕ, zero, suc, _+_, _<_, _≤_}
 use mathlib.Core.Path.{_≡_, refl, sym, ap, ap₂, _∙_, subst}
 use mathlib.Core.Bool.{Bool, true, false, cond, not, _&&_, _||_}
-use mathlib.Core.Logic.{_↔_, ⊎-elim}
+use mathlib.Core.Logic.{_↔_, ⊎-elim, Iff·trans}
 use native.Mathlib.Nat.{not-suc-le-zero}
 use native.Mathlib.Numerals.{add-one}
 use native.Mathlib.Decide.{decLt}
@@ -12,7 +12,7 @@ use borrow.Author.Tests.{ltb-true, ltb-false, lt-ltb, le-ltb}
 use Rattle.sheet.specs.Table.{jobOf}
 use Rattle.sheet.specs.declared.Table.{Table}
 use Rattle.sheet.proofs.Exactly.{either, never-both}
-use Rattle.slot_run.specs.Choosing.{Choice, nobody, job, smaller, earliest, deadlineOf, leftOf, ready, chosen}
+use Rattle.slot_run.specs.Choosing.{Choice, nobody, job, smaller, earliest, deadlineOf, leftOf, ready, chosen, unfinished}
 use Rattle.slot_run.specs.declared.State.{State}
 use Rattle.slot_run.specs.Steps.{chosenSays, passes, DeadlineHeld, besides}
 use Rattle.slot_run.specs.declared.Chosen.{Chosen}
@@ -109,17 +109,30 @@ pub chosen-is : (t : Table) (s : State) (k : ℕ) → chosen t s ≡ job k → I
 unfolding chosen
 chosen-is t s k e = chosen-passes (ready t s) (deadlineOf t) (t .count) k e
 
+-- nobody is found exactly where none passes
+pub nobody-passes : (test : ℕ → Bool) (deadline : ℕ → ℕ) (n : ℕ) → (earliest test deadline n ≡ nobody) ↔ ((k : ℕ) → k < n → test k ≡ false)
+nobody-passes test deadline n = (
+  (λ e. subst (FoundAmong test deadline n) e (earliest-is test deadline n)),
+  (λ none. go (earliest test deadline n) refl none),
+)
+  where
+    go : (c : Choice) → earliest test deadline n ≡ c → ((k : ℕ) → k < n → test k ≡ false) → earliest test deadline n ≡ nobody
+    go nobody e none = e
+    go (job k) e none = let is = chosen-passes test deadline n k e in absurd (never-both (is .passes) (none k (is .below)))
+
 -- Nobody is chosen exactly where no job is ready.
 pub nobody-ready : (t : Table) (s : State) → (chosen t s ≡ nobody) ↔ ((k : ℕ) → k < t .count → ready t s k ≡ false)
 unfolding chosen
-nobody-ready t s = (
-  (λ e. subst (FoundAmong (ready t s) (deadlineOf t) (t .count)) e (earliest-is (ready t s) (deadlineOf t) (t .count))),
-  (λ none. go (chosen t s) refl none),
-)
-  where
-    go : (c : Choice) → chosen t s ≡ c → ((k : ℕ) → k < t .count → ready t s k ≡ false) → chosen t s ≡ nobody
-    go nobody e none = e
-    go (job k) e none = let is = chosen-is t s k e in absurd (never-both (is .passes) (none k (is .below)))
+nobody-ready t s = nobody-passes (ready t s) (deadlineOf t) (t .count)
+
+-- Nobody is unfinished exactly where every job got its slots.
+pub nobody-unfinished : (t : Table) (s : State) → (unfinished t s ≡ nobody) ↔ ((k : ℕ) → k < t .count → leftOf s k ≡ 0)
+unfolding unfinished
+nobody-unfinished t s =
+    Iff·trans (nobody-passes (λ k. ltb 0 (leftOf s k)) (deadlineOf t) (t .count)) (
+      (λ none k h. let l = ltb-false 0 (leftOf s k) (none k h) in omega arith),
+      (λ done k h. le-ltb 0 (leftOf s k) (let e = done k h in omega arith)),
+    )
 
 -- ---- the choice that the code holds
 

@@ -1,6 +1,9 @@
 pub mod Counting
+pub mod Days
 pub mod EvenNumbers
 pub mod EvenRun
 pub mod EvenWork
+pub mod Evenness
 pub mod NoBoth
 pub mod RunPlan
+pub mod Theorems

@@ -1,0 +1,453 @@
+-- The theorems on the judge that are worth quoting. Each speaks of any result that a call's promise allows, so that no definition stands in between
+-- but those that say what evidence is (`specs/Evidence.antt`) and when a refusal is stated (`specs/Stated.antt`).
+use Prim.Native.Nat.{ℕ, _+_, _≤_, _<_}
+use mathlib.Core.Path.{_≡_, refl, sym, ap, ap₂, _∙_, subst}
+use mathlib.Core.Bool.{Bool, true, false, cond, not, _||_}
+use mathlib.Core.List.{List}
+use mathlib.Core.Logic.{_↔_, _⊎_, inl, inr, ⊎-elim, Iff·trans, Iff·symm, Iff·and}
+use native.Mathlib.Decide.{decLt, decLe, ℕ-discrete}
+use native.Mathlib.Omega.{arith}
+use lib.Dec.{ltb, eqb, lit<}
+use borrow.Author.Tests.{lt-ltb, le-ltb, ltb-true, ltb-false, eq-eqb, ne-eqb, eqb-true, eqb-false, not-true, not-false}
+use Rattle.sheet.specs.Paper.{Paper, Check, gives, refuses, refusesAt, _given-when_, _else_}
+use Rattle.sheet.specs.Refusals.{refusalSays}
+use Rattle.sheet.specs.Sheet.{sheetFaults, sheetSays, tableIn, harvestIn}
+use Rattle.sheet.specs.Table.{tableFaults, tableSays}
+use Rattle.sheet.specs.WellFormed.{GoodTable, WellFormed, sheetStates, tableStates, GivenFirst}
+use Rattle.sheet.specs.declared.Refusal.{Refusal}
+use Rattle.sheet.specs.declared.Refusal.the-variants.{Short, Mark, Counts, Layout, Window, Work}
+use Rattle.sheet.specs.declared.Table.{Table}
+use Rattle.sheet.proofs.Exactly.{either, never-both, leave-or-refusal, given-no-refusal}
+use Rattle.sheet.proofs.Order.{Refuses, else-goes-on, refusal-stays}
+use Rattle.sheet.proofs.Theorems.{not-of, or-of, below, not-below, sheet-accepted-exactly, table-accepted-exactly, call-on-sheet-refused-exactly, call-on-table-refused-exactly}
+use Rattle.sheet.proofs.Words.{or-left, or-right, or-false}
+use Rattle.demand.specs.Demand.{kindNumber, demandOf, supplyOf, Overloaded, overloaded}
+use Rattle.demand.specs.declared.Kind.{Kind}
+use Rattle.demand.specs.declared.Kind.the-variants.{Time, Energy}
+use Rattle.judge.specs.Evidence.{AcceptablePlan, AcceptableClaim}
+use Rattle.judge.specs.Judge.{planSays, planOnTable, planOnSheet, kindOf, claimFault, claimSays, claimOnTable, claimOnSheet, Weights}
+use Rattle.judge.specs.Promise.{faultSays, planAnswered, sumsSay, claimAnswered, claimWeighed, JudgesTablePlan, JudgesSheetPlan, JudgesTableClaim, JudgesSheetClaim}
+use Rattle.judge.specs.Stated.{PlanGivenFirst, ClaimStated, NotOverloadedStated}
+use Rattle.judge.specs.declared.PlanFault.{PlanFault}
+use Rattle.judge.specs.declared.PlanFault.the-variants.{WrongLength, NoJob, OutsideWindow, HasAllSlots, LacksCharge, LacksSlots}
+use Rattle.judge.specs.declared.JudgedPlan.{JudgedPlan}
+use Rattle.judge.specs.declared.JudgedPlan.the-variants as Plan
+use Rattle.judge.specs.declared.Sums.{Sums}
+use Rattle.judge.specs.declared.JudgedClaim.{JudgedClaim}
+use Rattle.judge.specs.declared.JudgedClaim.the-variants as Claim
+use Rattle.judge.proofs.Acceptable.{given-exactly, acceptable-exactly}
+use Rattle.judge.proofs.ClaimKinds.{is-kind, no-kind}
+use Rattle.judge.proofs.PlanOrder.{decided}
+use Rattle.judge.proofs.Promised.{claim-in-day}
+
+-- ---- numbers: 1 to 6 are the sheet's, above 10 the judge's own
+
+number : Check → ℕ
+number (gives x) = 0
+number (refuses n) = n
+number (refusesAt n place) = n
+
+refusal-small : (r : Refusal) → (1 ≤ number (refusalSays r)) × (number (refusalSays r) ≤ 6)
+unfolding number
+refusal-small Short = (omega arith, omega arith)
+refusal-small Mark = (omega arith, omega arith)
+refusal-small Counts = (omega arith, omega arith)
+refusal-small Layout = (omega arith, omega arith)
+refusal-small (Window k) = (omega arith, omega arith)
+refusal-small (Work k) = (omega arith, omega arith)
+
+fault-large : (f : PlanFault) → 11 ≤ number (faultSays f)
+unfolding number
+fault-large WrongLength = omega arith
+fault-large (NoJob i) = omega arith
+fault-large (OutsideWindow i) = omega arith
+fault-large (HasAllSlots i) = omega arith
+fault-large (LacksCharge i) = omega arith
+fault-large (LacksSlots k) = omega arith
+
+-- an answer that is no refusal of a sheet or a table
+abbrev Own : Check → Type 0
+Own c = (r : Refusal) → refusalSays r ≡ c → ⊥
+
+own-given : Own (gives tt)
+own-given r e = given-no-refusal tt r (sym e)
+
+own-number : (c : Check) → 11 ≤ number c → Own c
+own-number c h r e = let small = refusal-small r in let same = ap number e in omega arith
+
+own-fault : (f : PlanFault) → Own (faultSays f)
+own-fault f = own-number (faultSays f) (fault-large f)
+
+own-refuses : (n : ℕ) → 11 ≤ n → Own (refuses n)
+unfolding number
+own-refuses n h = own-number (refuses n) h
+
+-- ---- after a check that gives leave exactly when G, an answer of the call's own is given exactly when it follows the check
+
+module _ (checked : Check) (leave : (checked ≡ gives tt) ⊎ ((r : Refusal) × (checked ≡ refusalSays r))) (G : Type 0) (good : (checked ≡ gives tt) ↔ G) where
+  own-exactly : (rest c : Check) → Own c → ((checked else rest) ≡ c) ↔ (G × (rest ≡ c))
+  own-exactly rest c own = (
+    (λ e.
+        ⊎-elim
+        (λ l. (good .0 l, sym (else-goes-on checked rest l) ∙ e))
+        (λ w. absurd (own (w .0) (sym (refusal-stays (w .0) rest) ∙ ap (λ (a : Check). a else rest) (sym (w .1)) ∙ e)))
+        leave),
+    (λ g. else-goes-on checked rest (good .1 (g .0)) ∙ g .1),
+  )
+
+on-sheet : (s : List ℕ) (rest c : Check) → Own c → ((sheetSays s else rest) ≡ c) ↔ (WellFormed s × (rest ≡ c))
+unfolding sheetSays
+on-sheet s = own-exactly (sheetSays s) (leave-or-refusal (sheetFaults s)) (WellFormed s) (sheet-accepted-exactly s)
+
+on-table : (t : Table) (harvest : List ℕ) (rest c : Check) → Own c → ((tableSays t harvest else rest) ≡ c) ↔ (GoodTable t harvest × (rest ≡ c))
+unfolding tableSays
+on-table t harvest = own-exactly (tableSays t harvest) (leave-or-refusal (tableFaults t harvest)) (GoodTable t harvest) (table-accepted-exactly t harvest)
+
+-- ---- a plan: any two results that a promise allows are equal
+
+planMeant : Check → JudgedPlan
+planMeant (gives x) = Plan.Accepted
+planMeant (refuses n) =
+    cond (eqb n 1) (Plan.Refused Short)
+    (cond (eqb n 2) (Plan.Refused Mark)
+    (cond (eqb n 3) (Plan.Refused Counts)
+    (cond (eqb n 4) (Plan.Refused Layout) (Plan.Faulty WrongLength))))
+planMeant (refusesAt n k) =
+    cond (eqb n 5) (Plan.Refused (Window k))
+    (cond (eqb n 6) (Plan.Refused (Work k))
+    (cond (eqb n 12) (Plan.Faulty (NoJob k))
+    (cond (eqb n 13) (Plan.Faulty (OutsideWindow k))
+    (cond (eqb n 14) (Plan.Faulty (HasAllSlots k))
+    (cond (eqb n 15) (Plan.Faulty (LacksCharge k)) (Plan.Faulty (LacksSlots k)))))))
+
+plan-meant : (r : JudgedPlan) → planMeant (planAnswered r) ≡ r
+unfolding planMeant
+plan-meant (Plan.Refused Short) = refl
+plan-meant (Plan.Refused Mark) = refl
+plan-meant (Plan.Refused Counts) = refl
+plan-meant (Plan.Refused Layout) = refl
+plan-meant (Plan.Refused (Window k)) = refl
+plan-meant (Plan.Refused (Work k)) = refl
+plan-meant (Plan.Faulty WrongLength) = refl
+plan-meant (Plan.Faulty (NoJob i)) = refl
+plan-meant (Plan.Faulty (OutsideWindow i)) = refl
+plan-meant (Plan.Faulty (HasAllSlots i)) = refl
+plan-meant (Plan.Faulty (LacksCharge i)) = refl
+plan-meant (Plan.Faulty (LacksSlots k)) = refl
+plan-meant Plan.Accepted = refl
+
+plan-one : (r q : JudgedPlan) → planAnswered r ≡ planAnswered q → r ≡ q
+plan-one r q e = sym (plan-meant r) ∙ ap planMeant e ∙ plan-meant q
+
+pub one-sheet-judgement : {s plan : List ℕ} {r q : JudgedPlan} → JudgesSheetPlan s plan r → JudgesSheetPlan s plan q → r ≡ q
+one-sheet-judgement {r = r} {q = q} a b = plan-one r q (a .answer ∙ sym (b .answer))
+
+pub one-table-judgement : {t : Table} {harvest plan : List ℕ} {r q : JudgedPlan} → JudgesTablePlan t harvest plan r → JudgesTablePlan t harvest plan q → r ≡ q
+one-table-judgement {r = r} {q = q} a b = plan-one r q (a .answer ∙ sym (b .answer))
+
+-- a result is this one exactly when the definition says so
+answered : (r q : JudgedPlan) (c : Check) → planAnswered r ≡ c → (r ≡ q) ↔ (c ≡ planAnswered q)
+answered r q c e = ((λ p. sym e ∙ ap planAnswered p), (λ p. plan-one r q (e ∙ p)))
+
+-- ---- a plan is accepted exactly when the sheet is well formed and the plan is acceptable
+
+pub sheet-plan-accepted-exactly : (s plan : List ℕ) (r : JudgedPlan) → JudgesSheetPlan s plan r
+    → (r ≡ Plan.Accepted) ↔ (WellFormed s × AcceptablePlan (tableIn s) (harvestIn s) plan)
+unfolding planOnSheet
+sheet-plan-accepted-exactly s plan r judged =
+    Iff·trans (answered r Plan.Accepted _ (judged .answer))
+    (Iff·trans (on-sheet s _ (gives tt) own-given) (Iff·and ((λ g. g), (λ g. g)) (acceptable-exactly (tableIn s) (harvestIn s) plan)))
+
+pub table-plan-accepted-exactly : (t : Table) (harvest plan : List ℕ) (r : JudgedPlan) → JudgesTablePlan t harvest plan r
+    → (r ≡ Plan.Accepted) ↔ (GoodTable t harvest × AcceptablePlan t harvest plan)
+unfolding planOnTable
+table-plan-accepted-exactly t harvest plan r judged =
+    Iff·trans (answered r Plan.Accepted _ (judged .answer))
+    (Iff·trans (on-table t harvest _ (gives tt) own-given) (Iff·and ((λ g. g), (λ g. g)) (acceptable-exactly t harvest plan)))
+
+-- ---- 11 to 16 are given exactly when each is stated and nothing earlier applies
+
+pub sheet-plan-faulty-exactly : (s plan : List ℕ) (r : JudgedPlan) (f : PlanFault) → JudgesSheetPlan s plan r
+    → (r ≡ Plan.Faulty f) ↔ (WellFormed s × PlanGivenFirst (tableIn s) (harvestIn s) plan f)
+unfolding planOnSheet
+sheet-plan-faulty-exactly s plan r f judged =
+    Iff·trans (answered r (Plan.Faulty f) _ (judged .answer))
+    (Iff·trans (on-sheet s _ (faultSays f) (own-fault f)) (Iff·and ((λ g. g), (λ g. g)) (given-exactly (tableIn s) (harvestIn s) plan f)))
+
+pub table-plan-faulty-exactly : (t : Table) (harvest plan : List ℕ) (r : JudgedPlan) (f : PlanFault) → JudgesTablePlan t harvest plan r
+    → (r ≡ Plan.Faulty f) ↔ (GoodTable t harvest × PlanGivenFirst t harvest plan f)
+unfolding planOnTable
+table-plan-faulty-exactly t harvest plan r f judged =
+    Iff·trans (answered r (Plan.Faulty f) _ (judged .answer))
+    (Iff·trans (on-table t harvest _ (faultSays f) (own-fault f)) (Iff·and ((λ g. g), (λ g. g)) (given-exactly t harvest plan f)))
+
+-- ---- 1 to 6 are given exactly as every call gives them
+
+plan-own : (t : Table) (harvest plan : List ℕ) (q : Refusal) → planSays t harvest plan ≡ refusalSays q → ⊥
+plan-own t harvest plan q e =
+    ⊎-elim
+    (λ c. own-given q (sym e ∙ c .0))
+    (λ w. own-fault (w .0) q (sym e ∙ w .1))
+    (decided t harvest plan)
+
+pub sheet-plan-refused-exactly : (s plan : List ℕ) (r : JudgedPlan) (why : Refusal) → JudgesSheetPlan s plan r
+    → (r ≡ Plan.Refused why) ↔ GivenFirst (sheetStates s) why
+unfolding planOnSheet
+sheet-plan-refused-exactly s plan r why judged =
+    Iff·trans (answered r (Plan.Refused why) _ (judged .answer))
+    (call-on-sheet-refused-exactly s _ why (plan-own (tableIn s) (harvestIn s) plan))
+
+pub table-plan-refused-exactly : (t : Table) (harvest plan : List ℕ) (r : JudgedPlan) (why : Refusal) → JudgesTablePlan t harvest plan r
+    → (r ≡ Plan.Refused why) ↔ GivenFirst (tableStates t harvest) why
+unfolding planOnTable
+table-plan-refused-exactly t harvest plan r why judged =
+    Iff·trans (answered r (Plan.Refused why) _ (judged .answer))
+    (call-on-table-refused-exactly t harvest _ why (plan-own t harvest plan))
+
+-- ---- a claim: any two results that a promise allows are equal
+
+-- the result that the paper's answer and the weights stand for
+claimMeant : Check → Weights → JudgedClaim
+claimMeant (gives x) w = Claim.Accepted (record { demand = w .demand; supply = w .supply })
+claimMeant (refuses n) w =
+    cond (eqb n 1) (Claim.Refused Short)
+    (cond (eqb n 2) (Claim.Refused Mark)
+    (cond (eqb n 3) (Claim.Refused Counts)
+    (cond (eqb n 4) (Claim.Refused Layout)
+    (cond (eqb n 17) Claim.NoInterval (Claim.NotOverloaded (record { demand = w .demand; supply = w .supply }))))))
+claimMeant (refusesAt n k) w = cond (eqb n 5) (Claim.Refused (Window k)) (Claim.Refused (Work k))
+
+claim-meant : (r : JudgedClaim) → claimMeant (claimAnswered r) (claimWeighed r) ≡ r
+unfolding claimMeant
+claim-meant (Claim.Refused Short) = refl
+claim-meant (Claim.Refused Mark) = refl
+claim-meant (Claim.Refused Counts) = refl
+claim-meant (Claim.Refused Layout) = refl
+claim-meant (Claim.Refused (Window k)) = refl
+claim-meant (Claim.Refused (Work k)) = refl
+claim-meant Claim.NoInterval = refl
+claim-meant (Claim.NotOverloaded sums) = refl
+claim-meant (Claim.Accepted sums) = refl
+
+claim-one : (r q : JudgedClaim) → claimAnswered r ≡ claimAnswered q → claimWeighed r ≡ claimWeighed q → r ≡ q
+claim-one r q e w = sym (claim-meant r) ∙ ap₂ claimMeant e w ∙ claim-meant q
+
+pub one-sheet-claim : {s : List ℕ} {number from to : ℕ} {r q : JudgedClaim} → JudgesSheetClaim s number from to r → JudgesSheetClaim s number from to q → r ≡ q
+one-sheet-claim {r = r} {q = q} a b = claim-one r q (a .answer ∙ sym (b .answer)) (a .weighed ∙ sym (b .weighed))
+
+pub one-table-claim : {t : Table} {harvest : List ℕ} {number from to : ℕ} {r q : JudgedClaim} → JudgesTableClaim t harvest number from to r
+    → JudgesTableClaim t harvest number from to q → r ≡ q
+one-table-claim {r = r} {q = q} a b = claim-one r q (a .answer ∙ sym (b .answer)) (a .weighed ∙ sym (b .weighed))
+
+-- ---- a claim in words
+
+kind-back : (kind : Kind) → kindOf (kindNumber kind) ≡ kind
+kind-back Time = refl
+kind-back Energy = refl
+
+kind-number : (kind : Kind) → kindNumber kind ≤ 1
+kind-number Time = omega arith
+kind-number Energy = omega arith
+
+kind-of-number : (number : ℕ) → number ≤ 1 → kindNumber (kindOf number) ≡ number
+kind-of-number number h =
+    elim (ℕ-discrete number 0) [
+      | yes e ↦ ap kindNumber (ap (λ (b : Bool). cond b Time Energy) (eq-eqb number 0 e)) ∙ sym e
+      | no e ↦
+          let one : 1 ≡ number = omega arith in
+          ap kindNumber (ap (λ (b : Bool). cond b Time Energy) (ne-eqb number 0 e)) ∙ one
+    ]
+
+-- 17 does not apply exactly to an interval of the day, claimed in one of the two kinds
+record IsInterval (slots claimed from to : ℕ) : Type 0 where
+  a-kind : claimed ≤ 1
+  in-order : from < to
+  in-day : to ≤ slots
+
+-- 17 is stated exactly of what is none
+stated-words : (slots claimed from to : ℕ) → (IsInterval slots claimed from to → ⊥) ↔ ClaimStated slots claimed from to
+stated-words slots claimed from to = (
+  (λ none.
+      elim (decLe claimed 1) [
+        | no h ↦ inl ((λ e. omega arith), (λ e. omega arith))
+        | yes h ↦
+            elim (decLt from to) [
+              | no l ↦ inr (inl (omega arith))
+              | yes l ↦
+                  elim (decLe to slots) [
+                    | no m ↦ inr (inr (omega arith))
+                    | yes m ↦ absurd (none (record { a-kind = h; in-order = l; in-day = m }))
+                  ]
+            ]
+      ]),
+  (λ stated i.
+      let kind = i .a-kind in
+      let order = i .in-order in
+      let day = i .in-day in
+      ⊎-elim (λ w. let zero-is = w .0 in let one-is = w .1 in omega arith) (⊎-elim (λ h. omega arith) (λ h. omega arith)) stated),
+)
+
+is-interval : (slots claimed from to : ℕ) → (ClaimStated slots claimed from to → ⊥) ↔ IsInterval slots claimed from to
+is-interval slots claimed from to = (
+  (λ none.
+      elim (decLe claimed 1) [
+        | no h ↦ absurd (none (inl ((λ e. omega arith), (λ e. omega arith))))
+        | yes h ↦
+            elim (decLt from to) [
+              | no l ↦ absurd (none (inr (inl (omega arith))))
+              | yes l ↦
+                  elim (decLe to slots) [
+                    | no m ↦ absurd (none (inr (inr (omega arith))))
+                    | yes m ↦ record { a-kind = h; in-order = l; in-day = m }
+                  ]
+            ]
+      ]),
+  (λ i stated. stated-words slots claimed from to .1 stated i),
+)
+
+interval-words : (slots claimed from to : ℕ) → (claimFault slots claimed from to ≡ false) ↔ IsInterval slots claimed from to
+unfolding claimFault
+interval-words slots claimed from to = (
+  (λ e.
+      let days = claim-in-day slots claimed from to e in
+      let kind = not (eqb claimed 0 || eqb claimed 1) in
+      let is = not-false _ (or-left kind (not (ltb from to)) (or-left (kind || not (ltb from to)) (ltb slots to) e)) in
+      record { a-kind = small claimed is; in-order = days .0; in-day = days .1 }),
+  (λ i.
+      or-false _ _
+      (or-false _ _ (ap not (is-kind claimed (i .a-kind))) (ap not (lt-ltb from to (i .in-order))))
+      (le-ltb slots to (i .in-day))),
+)
+  where
+    small : (n : ℕ) → (eqb n 0 || eqb n 1) ≡ true → n ≤ 1
+    small n e =
+        elim (decLe n 1) [
+          | yes h ↦ h
+          | no h ↦ absurd (never-both e (no-kind n (omega arith)))
+        ]
+
+module _ (t : Table) (harvest : List ℕ) (claimed from to : ℕ) where
+  -- accepted: an interval of the day that is overloaded in its kind
+  claim-accepted : (claimSays t harvest claimed from to ≡ gives tt) ↔ AcceptableClaim t harvest claimed from to
+  unfolding claimSays overloaded
+  claim-accepted = (
+    (λ e.
+        let both = two _ _ e in
+        let i = interval-words (t .slots) claimed from to .0 (both .0) in
+        record {
+          kind = kindOf claimed;
+          kind-is = kind-of-number claimed (i .a-kind);
+          in-order = i .in-order;
+          in-day = i .in-day;
+          overloaded = ltb-true _ _ (not-false _ (both .1));
+        }),
+    (λ a.
+        let number-is = a .kind-is in
+        let kind-is : kindOf claimed ≡ a .kind = ap kindOf (sym number-is) ∙ kind-back (a .kind) in
+        let most = kind-number (a .kind) in
+        let clear = interval-words (t .slots) claimed from to .1 (record { a-kind = omega arith; in-order = a .in-order; in-day = a .in-day }) in
+        rw (clear, kind-is, lt-ltb _ _ (a .overloaded))),
+  )
+    where
+      two : (a b : Bool) → (17 given-when a else 18 given-when b) ≡ gives tt → (a ≡ false) × (b ≡ false)
+      two true b e = absurd (subst (λ (c : Check). Refuses c) e tt)
+      two false true e = absurd (subst (λ (c : Check). Refuses c) e tt)
+      two false false e = (refl, refl)
+
+  claim-seventeen : (claimSays t harvest claimed from to ≡ refuses 17) ↔ ClaimStated (t .slots) claimed from to
+  unfolding claimSays
+  claim-seventeen = Iff·trans none (stated-words (t .slots) claimed from to)
+    where
+      first : (a b : Bool) → (17 given-when a else 18 given-when b) ≡ refuses 17 → a ≡ true
+      first true b e = refl
+      first false true e = let n : _≡_ {A = ℕ} 18 17 = cc in absurd (omega arith)
+      first false false e = absurd (subst (λ (c : Check). Refuses c) (sym e) tt)
+
+      none : (claimSays t harvest claimed from to ≡ refuses 17) ↔ (IsInterval (t .slots) claimed from to → ⊥)
+      none = (
+        (λ e i. never-both (first (claimFault (t .slots) claimed from to) (not (overloaded (kindOf claimed) t harvest from to)) e) (interval-words (t .slots) claimed from to .1 i)),
+        (λ h. ⊎-elim (λ is. rw is) (λ is. absurd (h (interval-words (t .slots) claimed from to .0 is))) (either (claimFault (t .slots) claimed from to))),
+      )
+
+  claim-eighteen : (claimSays t harvest claimed from to ≡ refuses 18) ↔ ((ClaimStated (t .slots) claimed from to → ⊥) × NotOverloadedStated t harvest claimed from to)
+  unfolding claimSays overloaded
+  claim-eighteen = (
+    (λ e.
+        let both = second _ _ e in
+        let i = interval-words (t .slots) claimed from to .0 (both .0) in
+        (is-interval (t .slots) claimed from to .1 i, (kindOf claimed, kind-of-number claimed (i .a-kind), ltb-false _ _ (not-true _ (both .1))))),
+    (λ w.
+        let kind-is : kindOf claimed ≡ w .1 .0 = ap kindOf (sym (w .1 .1)) ∙ kind-back (w .1 .0) in
+        rw (interval-words (t .slots) claimed from to .1 (is-interval (t .slots) claimed from to .0 (w .0)), kind-is, le-ltb _ _ (w .1 .2))),
+  )
+    where
+      second : (a b : Bool) → (17 given-when a else 18 given-when b) ≡ refuses 18 → (a ≡ false) × (b ≡ true)
+      second true b e = let n : _≡_ {A = ℕ} 17 18 = cc in absurd (omega arith)
+      second false true e = (refl, refl)
+      second false false e = absurd (subst (λ (c : Check). Refuses c) (sym e) tt)
+
+  claim-own : (q : Refusal) → claimSays t harvest claimed from to ≡ refusalSays q → ⊥
+  unfolding claimSays
+  claim-own q e = go (claimFault (t .slots) claimed from to) (not (overloaded (kindOf claimed) t harvest from to)) e
+    where
+      go : (a b : Bool) → (17 given-when a else 18 given-when b) ≡ refusalSays q → ⊥
+      go true b p = own-refuses 17 (omega arith) q (sym p)
+      go false true p = own-refuses 18 (omega arith) q (sym p)
+      go false false p = own-given q (sym p)
+
+as-said : {a b c : Check} → a ≡ b → (a ≡ c) ↔ (b ≡ c)
+as-said e = ((λ p. sym e ∙ p), (λ p. e ∙ p))
+
+-- ---- a claim is accepted exactly when the sheet is well formed and its interval's demand exceeds its supply
+
+module _ (s : List ℕ) (claimed from to : ℕ) (r : JudgedClaim) (judged : JudgesSheetClaim s claimed from to r) where
+  pub sheet-claim-accepted-exactly : (claimAnswered r ≡ gives tt) ↔ (WellFormed s × AcceptableClaim (tableIn s) (harvestIn s) claimed from to)
+  unfolding claimOnSheet
+  sheet-claim-accepted-exactly =
+      Iff·trans (as-said (judged .answer))
+      (Iff·trans (on-sheet s _ (gives tt) own-given) (Iff·and ((λ g. g), (λ g. g)) (claim-accepted (tableIn s) (harvestIn s) claimed from to)))
+
+  -- 17 and 18, exactly when stated and nothing earlier applies
+  pub sheet-claim-seventeen-exactly : (claimAnswered r ≡ refuses 17) ↔ (WellFormed s × ClaimStated (tableIn s .slots) claimed from to)
+  unfolding claimOnSheet
+  sheet-claim-seventeen-exactly =
+      Iff·trans (as-said (judged .answer))
+      (Iff·trans (on-sheet s _ (refuses 17) (own-refuses 17 (omega arith))) (Iff·and ((λ g. g), (λ g. g)) (claim-seventeen (tableIn s) (harvestIn s) claimed from to)))
+
+  pub sheet-claim-eighteen-exactly : (claimAnswered r ≡ refuses 18) ↔ (WellFormed s × ((ClaimStated (tableIn s .slots) claimed from to → ⊥) × NotOverloadedStated (tableIn s) (harvestIn s) claimed from to))
+  unfolding claimOnSheet
+  sheet-claim-eighteen-exactly =
+      Iff·trans (as-said (judged .answer))
+      (Iff·trans (on-sheet s _ (refuses 18) (own-refuses 18 (omega arith))) (Iff·and ((λ g. g), (λ g. g)) (claim-eighteen (tableIn s) (harvestIn s) claimed from to)))
+
+  pub sheet-claim-refused-exactly : (why : Refusal) → (claimAnswered r ≡ refusalSays why) ↔ GivenFirst (sheetStates s) why
+  unfolding claimOnSheet
+  sheet-claim-refused-exactly why =
+      Iff·trans (as-said (judged .answer))
+      (call-on-sheet-refused-exactly s _ why (claim-own (tableIn s) (harvestIn s) claimed from to))
+
+-- the same on a table with its harvest
+module _ (t : Table) (harvest : List ℕ) (claimed from to : ℕ) (r : JudgedClaim) (judged : JudgesTableClaim t harvest claimed from to r) where
+  pub table-claim-accepted-exactly : (claimAnswered r ≡ gives tt) ↔ (GoodTable t harvest × AcceptableClaim t harvest claimed from to)
+  unfolding claimOnTable
+  table-claim-accepted-exactly =
+      Iff·trans (as-said (judged .answer))
+      (Iff·trans (on-table t harvest _ (gives tt) own-given) (Iff·and ((λ g. g), (λ g. g)) (claim-accepted t harvest claimed from to)))
+
+  pub table-claim-seventeen-exactly : (claimAnswered r ≡ refuses 17) ↔ (GoodTable t harvest × ClaimStated (t .slots) claimed from to)
+  unfolding claimOnTable
+  table-claim-seventeen-exactly =
+      Iff·trans (as-said (judged .answer))
+      (Iff·trans (on-table t harvest _ (refuses 17) (own-refuses 17 (omega arith))) (Iff·and ((λ g. g), (λ g. g)) (claim-seventeen t harvest claimed from to)))
+
+  pub table-claim-eighteen-exactly : (claimAnswered r ≡ refuses 18) ↔ (GoodTable t harvest × ((ClaimStated (t .slots) claimed from to → ⊥) × NotOverloadedStated t harvest claimed from to))
+  unfolding claimOnTable
+  table-claim-eighteen-exactly =
+      Iff·trans (as-said (judged .answer))
+      (Iff·trans (on-table t harvest _ (refuses 18) (own-refuses 18 (omega arith))) (Iff·and ((λ g. g), (λ g. g)) (claim-eighteen t harvest claimed from to)))
+
+  pub table-claim-refused-exactly : (why : Refusal) → (claimAnswered r ≡ refusalSays why) ↔ GivenFirst (tableStates t harvest) why
+  unfolding claimOnTable
+  table-claim-refused-exactly why =
+      Iff·trans (as-said (judged .answer))
+      (call-on-table-refused-exactly t harvest _ why (claim-own t harvest claimed from to))
