@@ -84,13 +84,15 @@ fn may_run(j: Job, slot: usize) -> bool
 fn judge_job(j: Job, slot: usize, got: u16, charge: u32) -> Finding
     ensures { λ r. ⌜ findingSays r ≡ jobSays j slot got charge ⌝ }
 {
+    let wanted = j.wanted;
+    let needed = sheet::widened(j.energy);
     if !may_run(j, slot) {
         return Finding::Fault(PlanFault::OutsideWindow(slot));
     }
-    if j.wanted <= got {
+    if wanted <= got {
         return Finding::Fault(PlanFault::HasAllSlots(slot));
     }
-    if charge < sheet::widened(j.energy) {
+    if charge < needed {
         return Finding::Fault(PlanFault::LacksCharge(slot));
     }
     Finding::Nothing

@@ -32,6 +32,9 @@ module _ (j : Job) (i got charge : ℕ) {may : Bool} (asked : may ≡ (leb (j .r
     unfolding jobSays
     fine h e l = rw (sym asked ∙ is, lt-leb _ _ h, ← e, le-ltb _ _ l)
 
+widened-requires : tie.Need-widened-requires
+widened-requires c κs = search needs
+
 may-run-requires : tie.Need-may-run-requires
 may-run-requires c κs = search needs
 
@@ -39,17 +42,14 @@ returns : tie.Need-returns
 returns c = thirteen _ _ _ _ (c .before .may-run .ensures) (c .if1 .taken)
 
 returns-2 : tie.Need-returns-2
-returns-2 c = fourteen _ _ _ _ (c .before .before .before .may-run .ensures) (c .before .before .if1 .left) (c .if2 .taken)
-
-widened-requires : tie.Need-widened-requires
-widened-requires c κs = search needs
+returns-2 c = fourteen _ _ _ _ (c .before .before .may-run .ensures) (c .before .if1 .left) (c .if2 .taken)
 
 returns-3 : tie.Need-returns-3
-returns-3 c = fifteen _ _ _ _ (c .before .before .before .before .before .may-run .ensures) (c .before .before .before .before .if1 .left) (c .before .before .if2 .left) (c .before .widened .ensures .0) (c .if3 .taken)
+returns-3 c = fifteen _ _ _ _ (c .before .before .before .may-run .ensures) (c .before .before .if1 .left) (c .before .if2 .left) (c .before .before .before .before .widened .ensures .0) (c .if3 .taken)
 
 returns-4 : tie.Need-returns-4
-returns-4 c = fine _ _ _ _ (c .before .before .before .before .before .may-run .ensures) (c .before .before .before .before .if1 .left) (c .before .before .if2 .left) (c .before .widened .ensures .0) (c .if3 .left)
+returns-4 c = fine _ _ _ _ (c .before .before .before .may-run .ensures) (c .before .before .if1 .left) (c .before .if2 .left) (c .before .before .before .before .widened .ensures .0) (c .if3 .left)
 
 pub judge-job-spec : {M : Type 1} → statement M
 judge-job-spec =
-    tie.close (tie.spec may-run-requires returns returns-2 widened-requires returns-3 returns-4)
+    tie.close (tie.spec widened-requires may-run-requires returns returns-2 returns-3 returns-4)
