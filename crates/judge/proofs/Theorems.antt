@@ -4,7 +4,7 @@ use Prim.Native.Nat.{ℕ, _+_, _≤_, _<_}
 use mathlib.Core.Path.{_≡_, refl, sym, ap, ap₂, _∙_, subst}
 use mathlib.Core.Bool.{Bool, true, false, cond, not, _||_}
 use mathlib.Core.List.{List}
-use mathlib.Core.Logic.{_↔_, _⊎_, inl, inr, ⊎-elim, Iff·trans, Iff·symm, Iff·and}
+use mathlib.Core.Logic.{_↔_, _⊎_, inl, inr, ⊎-elim, Iff·trans}
 use native.Mathlib.Decide.{decLt, decLe, ℕ-discrete}
 use native.Mathlib.Omega.{arith}
 use lib.Dec.{ltb, eqb, lit<}
@@ -82,26 +82,45 @@ own-refuses : (n : ℕ) → 11 ≤ n → Own (refuses n)
 unfolding number
 own-refuses n h = own-number (refuses n) h
 
--- ---- after a check that gives leave exactly when G, an answer of the call's own is given exactly when it follows the check
+-- ---- the check before the judge's own answers: it gives leave exactly when G, and each of 1 to 6 exactly when it is stated and nothing earlier is
 
-module _ (checked : Check) (leave : (checked ≡ gives tt) ⊎ ((r : Refusal) × (checked ≡ refusalSays r))) (G : Type 0) (good : (checked ≡ gives tt) ↔ G) where
-  own-exactly : (rest c : Check) → Own c → ((checked else rest) ≡ c) ↔ (G × (rest ≡ c))
-  own-exactly rest c own = (
-    (λ e.
-        ⊎-elim
-        (λ l. (good .0 l, sym (else-goes-on checked rest l) ∙ e))
-        (λ w. absurd (own (w .0) (sym (refusal-stays (w .0) rest) ∙ ap (λ (a : Check). a else rest) (sym (w .1)) ∙ e)))
-        leave),
-    (λ g. else-goes-on checked rest (good .1 (g .0)) ∙ g .1),
-  )
+record FirstChecked (G : Type 0) (states : Refusal → Type 0) : Type 0 where
+  says : Check
+  leave : (says ≡ gives tt) ⊎ ((r : Refusal) × (says ≡ refusalSays r))
+  good : (says ≡ gives tt) ↔ G
+  refused : (rest : Check) (why : Refusal) → ((q : Refusal) → rest ≡ refusalSays q → ⊥) → ((says else rest) ≡ refusalSays why) ↔ GivenFirst states why
 
-on-sheet : (s : List ℕ) (rest c : Check) → Own c → ((sheetSays s else rest) ≡ c) ↔ (WellFormed s × (rest ≡ c))
+sheet-first : (s : List ℕ) → FirstChecked (WellFormed s) (sheetStates s)
 unfolding sheetSays
-on-sheet s = own-exactly (sheetSays s) (leave-or-refusal (sheetFaults s)) (WellFormed s) (sheet-accepted-exactly s)
+sheet-first s =
+    record {
+      says = sheetSays s;
+      leave = leave-or-refusal (sheetFaults s);
+      good = sheet-accepted-exactly s;
+      refused = call-on-sheet-refused-exactly s;
+    }
 
-on-table : (t : Table) (harvest : List ℕ) (rest c : Check) → Own c → ((tableSays t harvest else rest) ≡ c) ↔ (GoodTable t harvest × (rest ≡ c))
+table-first : (t : Table) (harvest : List ℕ) → FirstChecked (GoodTable t harvest) (tableStates t harvest)
 unfolding tableSays
-on-table t harvest = own-exactly (tableSays t harvest) (leave-or-refusal (tableFaults t harvest)) (GoodTable t harvest) (table-accepted-exactly t harvest)
+table-first t harvest =
+    record {
+      says = tableSays t harvest;
+      leave = leave-or-refusal (tableFaults t harvest);
+      good = table-accepted-exactly t harvest;
+      refused = call-on-table-refused-exactly t harvest;
+    }
+
+-- after it, an answer of the judge's own is given exactly when the check gives leave and what follows gives that answer
+own-exactly : {G : Type 0} {states : Refusal → Type 0} (first : FirstChecked G states) (rest c : Check) {P : Type 0} → Own c → ((rest ≡ c) ↔ P)
+    → ((first .says else rest) ≡ c) ↔ (G × P)
+own-exactly first rest c own words = (
+  (λ e.
+      ⊎-elim
+      (λ l. (first .good .0 l, words .0 (sym (else-goes-on (first .says) rest l) ∙ e)))
+      (λ w. absurd (own (w .0) (sym (refusal-stays (w .0) rest) ∙ ap (λ (a : Check). a else rest) (sym (w .1)) ∙ e)))
+      (first .leave)),
+  (λ g. else-goes-on (first .says) rest (first .good .1 (g .0)) ∙ words .1 (g .1)),
+)
 
 -- ---- a plan: any two results that a promise allows are equal
 
@@ -149,40 +168,6 @@ one-table-judgement {r = r} {q = q} a b = plan-one r q (a .answer ∙ sym (b .an
 answered : (r q : JudgedPlan) (c : Check) → planAnswered r ≡ c → (r ≡ q) ↔ (c ≡ planAnswered q)
 answered r q c e = ((λ p. sym e ∙ ap planAnswered p), (λ p. plan-one r q (e ∙ p)))
 
--- ---- a plan is accepted exactly when the sheet is well formed and the plan is acceptable
-
-pub sheet-plan-accepted-exactly : (s plan : List ℕ) (r : JudgedPlan) → JudgesSheetPlan s plan r
-    → (r ≡ Plan.Accepted) ↔ (WellFormed s × AcceptablePlan (tableIn s) (harvestIn s) plan)
-unfolding planOnSheet
-sheet-plan-accepted-exactly s plan r judged =
-    Iff·trans (answered r Plan.Accepted _ (judged .answer))
-    (Iff·trans (on-sheet s _ (gives tt) own-given) (Iff·and ((λ g. g), (λ g. g)) (acceptable-exactly (tableIn s) (harvestIn s) plan)))
-
-pub table-plan-accepted-exactly : (t : Table) (harvest plan : List ℕ) (r : JudgedPlan) → JudgesTablePlan t harvest plan r
-    → (r ≡ Plan.Accepted) ↔ (GoodTable t harvest × AcceptablePlan t harvest plan)
-unfolding planOnTable
-table-plan-accepted-exactly t harvest plan r judged =
-    Iff·trans (answered r Plan.Accepted _ (judged .answer))
-    (Iff·trans (on-table t harvest _ (gives tt) own-given) (Iff·and ((λ g. g), (λ g. g)) (acceptable-exactly t harvest plan)))
-
--- ---- 11 to 16 are given exactly when each is stated and nothing earlier applies
-
-pub sheet-plan-faulty-exactly : (s plan : List ℕ) (r : JudgedPlan) (f : PlanFault) → JudgesSheetPlan s plan r
-    → (r ≡ Plan.Faulty f) ↔ (WellFormed s × PlanGivenFirst (tableIn s) (harvestIn s) plan f)
-unfolding planOnSheet
-sheet-plan-faulty-exactly s plan r f judged =
-    Iff·trans (answered r (Plan.Faulty f) _ (judged .answer))
-    (Iff·trans (on-sheet s _ (faultSays f) (own-fault f)) (Iff·and ((λ g. g), (λ g. g)) (given-exactly (tableIn s) (harvestIn s) plan f)))
-
-pub table-plan-faulty-exactly : (t : Table) (harvest plan : List ℕ) (r : JudgedPlan) (f : PlanFault) → JudgesTablePlan t harvest plan r
-    → (r ≡ Plan.Faulty f) ↔ (GoodTable t harvest × PlanGivenFirst t harvest plan f)
-unfolding planOnTable
-table-plan-faulty-exactly t harvest plan r f judged =
-    Iff·trans (answered r (Plan.Faulty f) _ (judged .answer))
-    (Iff·trans (on-table t harvest _ (faultSays f) (own-fault f)) (Iff·and ((λ g. g), (λ g. g)) (given-exactly t harvest plan f)))
-
--- ---- 1 to 6 are given exactly as every call gives them
-
 plan-own : (t : Table) (harvest plan : List ℕ) (q : Refusal) → planSays t harvest plan ≡ refusalSays q → ⊥
 plan-own t harvest plan q e =
     ⊎-elim
@@ -190,19 +175,48 @@ plan-own t harvest plan q e =
     (λ w. own-fault (w .0) q (sym e ∙ w .1))
     (decided t harvest plan)
 
-pub sheet-plan-refused-exactly : (s plan : List ℕ) (r : JudgedPlan) (why : Refusal) → JudgesSheetPlan s plan r
-    → (r ≡ Plan.Refused why) ↔ GivenFirst (sheetStates s) why
-unfolding planOnSheet
-sheet-plan-refused-exactly s plan r why judged =
-    Iff·trans (answered r (Plan.Refused why) _ (judged .answer))
-    (call-on-sheet-refused-exactly s _ why (plan-own (tableIn s) (harvestIn s) plan))
+-- on a sheet or a table that was checked first
+module _ {G : Type 0} {states : Refusal → Type 0} (first : FirstChecked G states) (t : Table) (harvest plan : List ℕ) (r : JudgedPlan)
+    (judged : planAnswered r ≡ (first .says else planSays t harvest plan)) where
+  plan-accepted : (r ≡ Plan.Accepted) ↔ (G × AcceptablePlan t harvest plan)
+  plan-accepted = Iff·trans (answered r Plan.Accepted _ judged) (own-exactly first (planSays t harvest plan) (gives tt) own-given (acceptable-exactly t harvest plan))
 
-pub table-plan-refused-exactly : (t : Table) (harvest plan : List ℕ) (r : JudgedPlan) (why : Refusal) → JudgesTablePlan t harvest plan r
-    → (r ≡ Plan.Refused why) ↔ GivenFirst (tableStates t harvest) why
-unfolding planOnTable
-table-plan-refused-exactly t harvest plan r why judged =
-    Iff·trans (answered r (Plan.Refused why) _ (judged .answer))
-    (call-on-table-refused-exactly t harvest _ why (plan-own t harvest plan))
+  plan-faulty : (f : PlanFault) → (r ≡ Plan.Faulty f) ↔ (G × PlanGivenFirst t harvest plan f)
+  plan-faulty f =
+      Iff·trans (answered r (Plan.Faulty f) _ judged) (own-exactly first (planSays t harvest plan) (faultSays f) (own-fault f) (given-exactly t harvest plan f))
+
+  plan-refused : (why : Refusal) → (r ≡ Plan.Refused why) ↔ GivenFirst states why
+  plan-refused why = Iff·trans (answered r (Plan.Refused why) _ judged) (first .refused (planSays t harvest plan) why (plan-own t harvest plan))
+
+module _ (s plan : List ℕ) (r : JudgedPlan) (judged : JudgesSheetPlan s plan r) where
+  -- a plan is accepted exactly when the sheet is well formed and the plan is acceptable
+  pub sheet-plan-accepted-exactly : (r ≡ Plan.Accepted) ↔ (WellFormed s × AcceptablePlan (tableIn s) (harvestIn s) plan)
+  unfolding planOnSheet sheet-first
+  sheet-plan-accepted-exactly = plan-accepted (sheet-first s) (tableIn s) (harvestIn s) plan r (judged .answer)
+
+  -- 11 to 16 are given exactly when each is stated and nothing earlier applies
+  pub sheet-plan-faulty-exactly : (f : PlanFault) → (r ≡ Plan.Faulty f) ↔ (WellFormed s × PlanGivenFirst (tableIn s) (harvestIn s) plan f)
+  unfolding planOnSheet sheet-first
+  sheet-plan-faulty-exactly = plan-faulty (sheet-first s) (tableIn s) (harvestIn s) plan r (judged .answer)
+
+  -- 1 to 6 are given exactly as every call gives them
+  pub sheet-plan-refused-exactly : (why : Refusal) → (r ≡ Plan.Refused why) ↔ GivenFirst (sheetStates s) why
+  unfolding planOnSheet sheet-first
+  sheet-plan-refused-exactly = plan-refused (sheet-first s) (tableIn s) (harvestIn s) plan r (judged .answer)
+
+-- the same on a table with its harvest
+module _ (t : Table) (harvest plan : List ℕ) (r : JudgedPlan) (judged : JudgesTablePlan t harvest plan r) where
+  pub table-plan-accepted-exactly : (r ≡ Plan.Accepted) ↔ (GoodTable t harvest × AcceptablePlan t harvest plan)
+  unfolding planOnTable table-first
+  table-plan-accepted-exactly = plan-accepted (table-first t harvest) t harvest plan r (judged .answer)
+
+  pub table-plan-faulty-exactly : (f : PlanFault) → (r ≡ Plan.Faulty f) ↔ (GoodTable t harvest × PlanGivenFirst t harvest plan f)
+  unfolding planOnTable table-first
+  table-plan-faulty-exactly = plan-faulty (table-first t harvest) t harvest plan r (judged .answer)
+
+  pub table-plan-refused-exactly : (why : Refusal) → (r ≡ Plan.Refused why) ↔ GivenFirst (tableStates t harvest) why
+  unfolding planOnTable table-first
+  table-plan-refused-exactly = plan-refused (table-first t harvest) t harvest plan r (judged .answer)
 
 -- ---- a claim: any two results that a promise allows are equal
 
@@ -395,59 +409,64 @@ module _ (t : Table) (harvest : List ℕ) (claimed from to : ℕ) where
       go false true p = own-refuses 18 (omega arith) q (sym p)
       go false false p = own-given q (sym p)
 
-as-said : {a b c : Check} → a ≡ b → (a ≡ c) ↔ (b ≡ c)
-as-said e = ((λ p. sym e ∙ p), (λ p. e ∙ p))
+-- on a sheet or a table that was checked first
+module _ {G : Type 0} {states : Refusal → Type 0} (first : FirstChecked G states) (t : Table) (harvest : List ℕ) (claimed from to : ℕ) (r : JudgedClaim)
+    (judged : claimAnswered r ≡ (first .says else claimSays t harvest claimed from to)) where
+  as-said : (c : Check) → (claimAnswered r ≡ c) ↔ ((first .says else claimSays t harvest claimed from to) ≡ c)
+  as-said c = ((λ p. sym judged ∙ p), (λ p. judged ∙ p))
 
--- ---- a claim is accepted exactly when the sheet is well formed and its interval's demand exceeds its supply
+  is-accepted : (claimAnswered r ≡ gives tt) ↔ (G × AcceptableClaim t harvest claimed from to)
+  is-accepted = Iff·trans (as-said (gives tt)) (own-exactly first (claimSays t harvest claimed from to) (gives tt) own-given (claim-accepted t harvest claimed from to))
+
+  is-seventeen : (claimAnswered r ≡ refuses 17) ↔ (G × ClaimStated (t .slots) claimed from to)
+  is-seventeen =
+      Iff·trans (as-said (refuses 17))
+      (own-exactly first (claimSays t harvest claimed from to) (refuses 17) (own-refuses 17 (omega arith)) (claim-seventeen t harvest claimed from to))
+
+  is-eighteen : (claimAnswered r ≡ refuses 18) ↔ (G × ((ClaimStated (t .slots) claimed from to → ⊥) × NotOverloadedStated t harvest claimed from to))
+  is-eighteen =
+      Iff·trans (as-said (refuses 18))
+      (own-exactly first (claimSays t harvest claimed from to) (refuses 18) (own-refuses 18 (omega arith)) (claim-eighteen t harvest claimed from to))
+
+  is-refused : (why : Refusal) → (claimAnswered r ≡ refusalSays why) ↔ GivenFirst states why
+  is-refused why = Iff·trans (as-said (refusalSays why)) (first .refused (claimSays t harvest claimed from to) why (claim-own t harvest claimed from to))
 
 module _ (s : List ℕ) (claimed from to : ℕ) (r : JudgedClaim) (judged : JudgesSheetClaim s claimed from to r) where
+  -- a claim is accepted exactly when the sheet is well formed and its interval's demand exceeds its supply
   pub sheet-claim-accepted-exactly : (claimAnswered r ≡ gives tt) ↔ (WellFormed s × AcceptableClaim (tableIn s) (harvestIn s) claimed from to)
-  unfolding claimOnSheet
-  sheet-claim-accepted-exactly =
-      Iff·trans (as-said (judged .answer))
-      (Iff·trans (on-sheet s _ (gives tt) own-given) (Iff·and ((λ g. g), (λ g. g)) (claim-accepted (tableIn s) (harvestIn s) claimed from to)))
+  unfolding claimOnSheet sheet-first
+  sheet-claim-accepted-exactly = is-accepted (sheet-first s) (tableIn s) (harvestIn s) claimed from to r (judged .answer)
 
-  -- 17 and 18, exactly when stated and nothing earlier applies
+  -- 17 and 18 are given exactly when each is stated and nothing earlier applies
   pub sheet-claim-seventeen-exactly : (claimAnswered r ≡ refuses 17) ↔ (WellFormed s × ClaimStated (tableIn s .slots) claimed from to)
-  unfolding claimOnSheet
-  sheet-claim-seventeen-exactly =
-      Iff·trans (as-said (judged .answer))
-      (Iff·trans (on-sheet s _ (refuses 17) (own-refuses 17 (omega arith))) (Iff·and ((λ g. g), (λ g. g)) (claim-seventeen (tableIn s) (harvestIn s) claimed from to)))
+  unfolding claimOnSheet sheet-first
+  sheet-claim-seventeen-exactly = is-seventeen (sheet-first s) (tableIn s) (harvestIn s) claimed from to r (judged .answer)
 
-  pub sheet-claim-eighteen-exactly : (claimAnswered r ≡ refuses 18) ↔ (WellFormed s × ((ClaimStated (tableIn s .slots) claimed from to → ⊥) × NotOverloadedStated (tableIn s) (harvestIn s) claimed from to))
-  unfolding claimOnSheet
-  sheet-claim-eighteen-exactly =
-      Iff·trans (as-said (judged .answer))
-      (Iff·trans (on-sheet s _ (refuses 18) (own-refuses 18 (omega arith))) (Iff·and ((λ g. g), (λ g. g)) (claim-eighteen (tableIn s) (harvestIn s) claimed from to)))
+  pub sheet-claim-eighteen-exactly : (claimAnswered r ≡ refuses 18)
+      ↔ (WellFormed s × ((ClaimStated (tableIn s .slots) claimed from to → ⊥) × NotOverloadedStated (tableIn s) (harvestIn s) claimed from to))
+  unfolding claimOnSheet sheet-first
+  sheet-claim-eighteen-exactly = is-eighteen (sheet-first s) (tableIn s) (harvestIn s) claimed from to r (judged .answer)
 
+  -- 1 to 6 are given exactly as every call gives them
   pub sheet-claim-refused-exactly : (why : Refusal) → (claimAnswered r ≡ refusalSays why) ↔ GivenFirst (sheetStates s) why
-  unfolding claimOnSheet
-  sheet-claim-refused-exactly why =
-      Iff·trans (as-said (judged .answer))
-      (call-on-sheet-refused-exactly s _ why (claim-own (tableIn s) (harvestIn s) claimed from to))
+  unfolding claimOnSheet sheet-first
+  sheet-claim-refused-exactly = is-refused (sheet-first s) (tableIn s) (harvestIn s) claimed from to r (judged .answer)
 
 -- the same on a table with its harvest
 module _ (t : Table) (harvest : List ℕ) (claimed from to : ℕ) (r : JudgedClaim) (judged : JudgesTableClaim t harvest claimed from to r) where
   pub table-claim-accepted-exactly : (claimAnswered r ≡ gives tt) ↔ (GoodTable t harvest × AcceptableClaim t harvest claimed from to)
-  unfolding claimOnTable
-  table-claim-accepted-exactly =
-      Iff·trans (as-said (judged .answer))
-      (Iff·trans (on-table t harvest _ (gives tt) own-given) (Iff·and ((λ g. g), (λ g. g)) (claim-accepted t harvest claimed from to)))
+  unfolding claimOnTable table-first
+  table-claim-accepted-exactly = is-accepted (table-first t harvest) t harvest claimed from to r (judged .answer)
 
   pub table-claim-seventeen-exactly : (claimAnswered r ≡ refuses 17) ↔ (GoodTable t harvest × ClaimStated (t .slots) claimed from to)
-  unfolding claimOnTable
-  table-claim-seventeen-exactly =
-      Iff·trans (as-said (judged .answer))
-      (Iff·trans (on-table t harvest _ (refuses 17) (own-refuses 17 (omega arith))) (Iff·and ((λ g. g), (λ g. g)) (claim-seventeen t harvest claimed from to)))
+  unfolding claimOnTable table-first
+  table-claim-seventeen-exactly = is-seventeen (table-first t harvest) t harvest claimed from to r (judged .answer)
 
-  pub table-claim-eighteen-exactly : (claimAnswered r ≡ refuses 18) ↔ (GoodTable t harvest × ((ClaimStated (t .slots) claimed from to → ⊥) × NotOverloadedStated t harvest claimed from to))
-  unfolding claimOnTable
-  table-claim-eighteen-exactly =
-      Iff·trans (as-said (judged .answer))
-      (Iff·trans (on-table t harvest _ (refuses 18) (own-refuses 18 (omega arith))) (Iff·and ((λ g. g), (λ g. g)) (claim-eighteen t harvest claimed from to)))
+  pub table-claim-eighteen-exactly : (claimAnswered r ≡ refuses 18)
+      ↔ (GoodTable t harvest × ((ClaimStated (t .slots) claimed from to → ⊥) × NotOverloadedStated t harvest claimed from to))
+  unfolding claimOnTable table-first
+  table-claim-eighteen-exactly = is-eighteen (table-first t harvest) t harvest claimed from to r (judged .answer)
 
   pub table-claim-refused-exactly : (why : Refusal) → (claimAnswered r ≡ refusalSays why) ↔ GivenFirst (tableStates t harvest) why
-  unfolding claimOnTable
-  table-claim-refused-exactly why =
-      Iff·trans (as-said (judged .answer))
-      (call-on-table-refused-exactly t harvest _ why (claim-own t harvest claimed from to))
+  unfolding claimOnTable table-first
+  table-claim-refused-exactly = is-refused (table-first t harvest) t harvest claimed from to r (judged .answer)
