@@ -1,10 +1,12 @@
 //! Times the proved calls against an equal program in plain Rust: a sheet is read and written back,
-//! read and searched for an overloaded interval, and planned. Run it by bench/run.
+//! read and searched for an overloaded interval, and planned, and a plan and claims are judged against
+//! it. Run it by bench/run.
 //!
 //! Both are timed in one run, turn about, so that what else the machine does falls on both. Their
 //! answers and every byte of their buffers are compared before the clock starts and after it stops.
 
 use std::arch::asm;
+use std::collections::BTreeMap;
 use std::hint::black_box;
 use std::time::Instant;
 
@@ -38,8 +40,7 @@ struct Table {
     capacity: u16,
 }
 
-/// What is wrong, with the record where the paper names one. (Nobody here asks which.)
-#[allow(dead_code)]
+/// What is wrong, with the record where the paper names one. (Only the judge tells which.)
 enum Refusal {
     Short,
     Mark,
@@ -366,6 +367,104 @@ fn whole_run(table: &Table, harvest: &[u8], totals: &Totals, plan: &mut [u8]) ->
     state
 }
 
+// ---- the judge
+
+/// Why a plan is refused, with the slot, or for the last the job.
+enum PlanFault {
+    WrongLength,
+    NoJob(usize),
+    OutsideWindow(usize),
+    HasAllSlots(usize),
+    LacksCharge(usize),
+    LacksSlots(usize),
+}
+
+/// A busy slot's job, which got so many slots before and finds that much charge.
+fn judge_job(job: &Job, slot: usize, got: u16, charge: u32) -> Result<(), PlanFault> {
+    if slot < job.release as usize || job.deadline as usize <= slot {
+        return Err(PlanFault::OutsideWindow(slot));
+    }
+    if job.wanted <= got {
+        return Err(PlanFault::HasAllSlots(slot));
+    }
+    if charge < job.energy as u32 {
+        return Err(PlanFault::LacksCharge(slot));
+    }
+    Ok(())
+}
+
+/// A plan against a table that was read.
+fn judge_plan(table: &Table, harvest: &[u8], plan: &[u8]) -> Result<(), PlanFault> {
+    if plan.len() != table.slots as usize {
+        return Err(PlanFault::WrongLength);
+    }
+    let capacity = table.capacity as u32;
+    let mut got = [0; MOST_JOBS];
+    let mut level = table.capacity;
+    for (slot, (byte, harvest)) in plan.iter().zip(harvest).enumerate() {
+        let charge = level as u32 + *harvest as u32;
+        if *byte == IDLE {
+            level = charge.min(capacity) as u16;
+            continue;
+        }
+        let number = *byte as usize;
+        let Some(job) = table.jobs().get(number) else {
+            return Err(PlanFault::NoJob(slot));
+        };
+        judge_job(job, slot, got[number], charge)?;
+        got[number] += 1;
+        level = (charge - job.energy as u32).min(capacity) as u16;
+    }
+    for (number, (job, got)) in table.jobs().iter().zip(&got).enumerate() {
+        if *got < job.wanted {
+            return Err(PlanFault::LacksSlots(number));
+        }
+    }
+    Ok(())
+}
+
+struct Sums {
+    demand: u32,
+    supply: u32,
+}
+
+/// The demand and the supply of an interval of the day, in one kind.
+fn weigh(table: &Table, harvest: &[u8], kind: Kind, from: u16, to: u16) -> Sums {
+    let mut demand = 0;
+    for job in table.jobs() {
+        if from <= job.release && job.deadline <= to {
+            demand += match kind {
+                Kind::Time => job.wanted as u32,
+                Kind::Energy => job.wanted as u32 * job.energy as u32,
+            };
+        }
+    }
+    let supply = match kind {
+        Kind::Time => (to - from) as u32,
+        Kind::Energy => {
+            let mut supply = table.capacity as u32;
+            for byte in &harvest[from as usize..to as usize] {
+                supply += *byte as u32;
+            }
+            supply
+        }
+    };
+    Sums { demand, supply }
+}
+
+/// What a claim weighs, against a table that was read; nothing where it is no interval of the day.
+fn judge_claim(table: &Table, harvest: &[u8], kind: u64, start: u64, end: u64) -> Option<Sums> {
+    let kind = match kind {
+        0 => Kind::Time,
+        1 => Kind::Energy,
+        _ => return None,
+    };
+    if end <= start || (table.slots as u64) < end {
+        return None;
+    }
+    Some(weigh(table, harvest, kind, start as u16, end as u16))
+}
+
 // ---- the calls, each answer as one number. Not inlined: the proved calls are not either.
 
 fn interval_number(found: &Overload) -> u64 {
@@ -400,6 +499,58 @@ fn rust_plan(bytes: &[u8], plan: &mut [u8]) -> u64 {
     earliest(&table, |number, _| 0 < end.left[number]).map_or(0, |number| UNDECIDED + number as u64)
 }
 
+fn number_at(number: u64, place: usize) -> u64 {
+    number + 32 * (place as u64 % 2048)
+}
+
+fn refusal_number(why: Refusal) -> u64 {
+    match why {
+        Refusal::Short => 1,
+        Refusal::Mark => 2,
+        Refusal::Counts => 3,
+        Refusal::Layout => 4,
+        Refusal::Window(number) => number_at(5, number),
+        Refusal::Work(number) => number_at(6, number),
+        Refusal::NoRoom => 8,
+    }
+}
+
+fn fault_number(fault: PlanFault) -> u64 {
+    match fault {
+        PlanFault::WrongLength => 11,
+        PlanFault::NoJob(slot) => number_at(12, slot),
+        PlanFault::OutsideWindow(slot) => number_at(13, slot),
+        PlanFault::HasAllSlots(slot) => number_at(14, slot),
+        PlanFault::LacksCharge(slot) => number_at(15, slot),
+        PlanFault::LacksSlots(number) => number_at(16, number),
+    }
+}
+
+fn sums_number(sums: &Sums) -> u64 {
+    (sums.demand as u64 % (1 << 26) << 16) + (sums.supply as u64 % (1 << 20) << 42)
+}
+
+#[inline(never)]
+fn rust_judge_plan(bytes: &[u8], plan: &mut [u8]) -> u64 {
+    match read(bytes) {
+        Ok((table, harvest)) => judge_plan(&table, harvest, plan).map_or_else(fault_number, |()| 0),
+        Err(why) => refusal_number(why),
+    }
+}
+
+#[inline(never)]
+fn rust_judge_claim(bytes: &[u8], kind: u64, start: u64, end: u64) -> u64 {
+    let (table, harvest) = match read(bytes) {
+        Ok(read) => read,
+        Err(why) => return refusal_number(why),
+    };
+    match judge_claim(&table, harvest, kind, start, end) {
+        None => 17,
+        Some(sums) if sums.supply < sums.demand => sums_number(&sums),
+        Some(sums) => 18 + sums_number(&sums),
+    }
+}
+
 // ------------------------------------------------------------------------------------------
 // The proved calls, of target/staticlib/libbench.a
 // ------------------------------------------------------------------------------------------
@@ -410,6 +561,8 @@ extern "C" {
     fn gishronek_search(bytes: *const u8, length: usize) -> u64;
     fn gishronek_plan(bytes: *const u8, length: usize, plan: *mut u8, room: usize) -> u64;
     fn gishronek_first_step(bytes: *const u8, length: usize) -> u64;
+    fn gishronek_judge_plan(bytes: *const u8, length: usize, plan: *const u8, slots: usize) -> u64;
+    fn gishronek_judge_claim(bytes: *const u8, length: usize, kind: u64, start: u64, end: u64) -> u64;
 }
 
 fn proved_there_and_back(bytes: &[u8], out: &mut [u8]) -> u64 {
@@ -422,6 +575,26 @@ fn proved_search(bytes: &[u8], _: &mut [u8]) -> u64 {
 
 fn proved_plan(bytes: &[u8], plan: &mut [u8]) -> u64 {
     unsafe { gishronek_plan(bytes.as_ptr(), bytes.len(), plan.as_mut_ptr(), plan.len()) }
+}
+
+fn proved_judge_plan(bytes: &[u8], plan: &mut [u8]) -> u64 {
+    unsafe { gishronek_judge_plan(bytes.as_ptr(), bytes.len(), plan.as_ptr(), plan.len()) }
+}
+
+fn proved_judge_claim(bytes: &[u8], kind: u64, start: u64, end: u64) -> u64 {
+    unsafe { gishronek_judge_claim(bytes.as_ptr(), bytes.len(), kind, start, end) }
+}
+
+// ------------------------------------------------------------------------------------------
+// Claims over as many slots as the buffer has bytes, the whole day, in each kind
+// ------------------------------------------------------------------------------------------
+
+type Claim = fn(&[u8], u64, u64, u64) -> u64;
+
+const CLAIMS: [Claim; 2] = [rust_judge_claim, proved_judge_claim];
+
+fn claim<const WHICH: usize, const KIND: u64>(bytes: &[u8], day: &mut [u8]) -> u64 {
+    black_box(CLAIMS[WHICH])(bytes, KIND, 0, day.len() as u64)
 }
 
 // ------------------------------------------------------------------------------------------
@@ -516,8 +689,8 @@ fn median(mut values: Vec<f64>) -> f64 {
 }
 
 /// Both give the same answer and leave the same bytes. Answers it.
-fn compare(calls: [Call; 2], bytes: &[u8], room: usize) -> u64 {
-    let mut outs = [vec![0xA5; room], vec![0xA5; room]];
+fn compare(calls: [Call; 2], bytes: &[u8], buffer: &[u8]) -> u64 {
+    let mut outs = [buffer.to_vec(), buffer.to_vec()];
     let answers = [0, 1].map(|which| calls[which](bytes, &mut outs[which]));
     assert_eq!(answers[0], answers[1], "the two answers differ");
     assert_eq!(outs[0], outs[1], "the two buffers differ");
@@ -546,16 +719,21 @@ impl Times {
 }
 
 /// Compares the two on the day, on a buffer that is one short and on the day with one byte damaged
-/// (every so many bytes), then times them on the day: rounds of that many calls.
-fn bench(day: &Day, calls: [Call; 2], room: usize, every: usize, rounds: usize, times: u32) -> Times {
-    let answer = compare(calls, &day.bytes, room);
-    compare(calls, &day.bytes, room - 1);
+/// (every so many bytes). Answers the day's answer.
+fn compare_on_day(day: &Day, calls: [Call; 2], buffer: &[u8], every: usize) -> u64 {
+    compare(calls, &day.bytes, &buffer[1..]);
     for at in (0..day.bytes.len()).step_by(every) {
         let mut damaged = day.bytes.clone();
         damaged[at] ^= 0x81;
-        compare(calls, &damaged, room);
+        compare(calls, &damaged, buffer);
     }
-    let mut outs = [vec![0; room], vec![0; room]];
+    compare(calls, &day.bytes, buffer)
+}
+
+/// Compares the two, times them on the day, rounds of that many calls, and compares them again.
+fn bench(day: &Day, calls: [Call; 2], buffer: &[u8], every: usize, rounds: usize, times: u32) -> Times {
+    let answer = compare_on_day(day, calls, buffer, every);
+    let mut outs = [buffer.to_vec(), buffer.to_vec()];
     let mut taken = [Vec::new(), Vec::new()];
     for round in 0..rounds {
         // turn about, and each first in half the rounds
@@ -564,8 +742,48 @@ fn bench(day: &Day, calls: [Call; 2], room: usize, every: usize, rounds: usize, 
         }
     }
     assert_eq!(outs[0], outs[1], "the two buffers differ");
-    assert_eq!(compare(calls, &day.bytes, room), answer);
+    assert_eq!(compare_on_day(day, calls, buffer, every), answer);
     Times(taken)
+}
+
+const JUDGES: [Call; 2] = [rust_judge_plan, proved_judge_plan];
+
+/// The two judges agree on plans with one byte of this one changed, on the day and on one with an eighth
+/// of its capacity, and on plans that are too short or too long; and on claims at intervals all over the
+/// day and at some that are none, in each kind and in some that are none, on the day and on one that is
+/// overloaded. Answers how often each refusal was given, 0 for none.
+fn compare_judges(day: &Day, plan: &[u8]) -> BTreeMap<u64, usize> {
+    let mut given = BTreeMap::new();
+    let mut count = |answer: u64| *given.entry(answer % 32).or_insert(0) += 1;
+    let (jobs, slots) = (day.table.count as u8, plan.len());
+    let mut poor = day.bytes.clone();
+    let capacity = poor.len() - 4;
+    poor[capacity..capacity + 2].copy_from_slice(&(day.table.capacity / 8).to_le_bytes());
+    for slot in (0..slots).step_by(13) {
+        for byte in [0, 1, jobs / 2, jobs - 1, jobs, 254, IDLE] {
+            let mut changed = plan.to_vec();
+            changed[slot] = byte;
+            count(compare(JUDGES, &day.bytes, &changed));
+            count(compare(JUDGES, &poor, &changed));
+        }
+        count(compare(JUDGES, &day.bytes, &plan[slot + 1..]));
+    }
+    count(compare(JUDGES, &day.bytes, &[plan, &[IDLE]].concat()));
+    let mut overloaded = day.bytes.clone();
+    overloaded[4..6].copy_from_slice(&MOST_SLOTS.to_le_bytes());
+    let ends = |parts: usize| (0..=slots).step_by(slots / parts).map(|end| end as u64);
+    for bytes in [&day.bytes, &overloaded] {
+        for start in ends(8).chain([u64::MAX]) {
+            for end in ends(16).chain([slots as u64 + 1, u64::MAX]) {
+                for kind in [0, 1, 2, u64::MAX] {
+                    let [rust, proved] = CLAIMS.map(|claim| claim(bytes, kind, start, end));
+                    assert_eq!(rust, proved, "the two answers differ");
+                    count(rust);
+                }
+            }
+        }
+    }
+    given
 }
 
 /// A day's benchmark. A round is that many calls: there and back, of the search, of the planner.
@@ -574,12 +792,34 @@ fn bench_day(day: &Day, every: usize, [back, searches, plans]: [u32; 3]) {
     let (jobs, slots) = (table.count, table.slots);
     println!("{what}: {jobs} jobs, {slots} slots; by rules 1 to 6: {:?} slots", grounds(day));
     let there_and_back = [rust_there_and_back, proved_there_and_back];
-    bench(day, there_and_back, bytes.len(), 1, 2000, back).print(&format!("there and back, {what}"));
-    let search = bench(day, [rust_search, proved_search], 1, every, 1000, searches);
+    let painted = vec![0xA5; bytes.len()];
+    bench(day, there_and_back, &painted, 1, 2000, back).print(&format!("there and back, {what}"));
+    let search = bench(day, [rust_search, proved_search], &painted[..1], every, 1000, searches);
     search.print(&format!("search, {what}"));
-    let plan = bench(day, [rust_plan, proved_plan], harvest.len(), every, 500, plans);
+    let painted = &painted[..harvest.len()];
+    let plan = bench(day, [rust_plan, proved_plan], painted, every, 500, plans);
     plan.print(&format!("plan, {what}"));
     plan.without(&search).print(&format!("run (plan without search), {what}"));
+}
+
+/// The judge's benchmark on a day that the planner meets: its own plan, and claims over the whole day.
+/// A round is that many calls.
+fn bench_judge(day: &Day, every: usize, times: u32) {
+    let Day { what, harvest, bytes, .. } = day;
+    let mut plan = vec![0; harvest.len()];
+    assert_eq!(rust_plan(bytes, &mut plan), 0, "the planner does not meet the day");
+    assert_eq!(rust_judge_plan(bytes, &mut plan), 0, "the judge refuses the planner's plan");
+    let given = compare_judges(day, &plan);
+    println!("judged, {what}: capacity {}; beside the timed calls, refusals given: {given:?}", day.table.capacity);
+    let lines: [(&str, [Call; 2]); 3] = [
+        ("judge plan", JUDGES),
+        ("judge claim time", [claim::<0, 0>, claim::<1, 0>]),
+        ("judge claim energy", [claim::<0, 1>, claim::<1, 1>]),
+    ];
+    for (line, calls) in lines {
+        bench(day, calls, &plan, every, 2000, times).print(&format!("{line}, {what}"));
+    }
+    assert_eq!(compare_judges(day, &plan), given);
 }
 
 // ------------------------------------------------------------------------------------------
@@ -621,9 +861,14 @@ fn main() {
     let largest = day("largest day", 64, 1440, mix);
     let mix = Mix { capacity: 105, wanted: [17, 3, 1, 3], energy: [6, 11, 7, 31], swing: 12 };
     let typical = day("typical day", 12, 96, mix);
+    // the largest day is left undecided; with a larger capacity it is met
+    let mix = Mix { capacity: 2500, wanted: [41, 18, 7, 8], energy: [7, 6, 17, 27], swing: 11 };
+    let largest_met = day("largest day", 64, 1440, mix);
     println!("medians of rounds, turn about; the buffers are not cleared between calls or rounds");
     bench_day(&largest, 13, [200, 2, 1]);
     bench_day(&typical, 1, [1000, 200, 30]);
+    bench_judge(&largest_met, 13, 50);
+    bench_judge(&typical, 1, 500);
     let stack = |call: usize| {
         let of = |day: &Day| stack_of(call, &day.bytes, &mut vec![0; day.harvest.len()]);
         of(&largest).max(of(&typical))

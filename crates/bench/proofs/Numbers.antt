@@ -1,4 +1,5 @@
--- The numbers of the answers: every refusal has the same one, and an undecided day's job is one of the table's.
+-- The numbers of the answers. A search and a plan have one for every refusal, and an undecided day's job is one of the table's; a judge's answer has each
+-- refusal's own.
 use Prim.Native.Nat.{ℕ, _+_, _<_, _^_}
 use mathlib.Core.Path.{_≡_, refl, sym, ap, _∙_}
 use mathlib.Core.List.{List}
@@ -23,10 +24,15 @@ use Rattle.slot_run.specs.Choosing.{Choice, nobody, job, unfinished}
 use Rattle.slot_run.specs.Rules.{stateAt}
 use Rattle.slot_run.proofs.Choosing.{chosen-passes}
 use Rattle.planner.specs.Plan.{Verdict, undecided, byFound, byUnfinished, verdictOf, planSheet}
+use Rattle.judge.specs.Promise.{faultSays, sumsSay, claimAnswered, claimWeighed}
+use Rattle.judge.specs.declared.PlanFault.{PlanFault}
+use Rattle.judge.specs.declared.Sums.{Sums}
+use Rattle.judge.specs.declared.JudgedClaim.{JudgedClaim}
+use Rattle.judge.specs.declared.JudgedClaim.the-variants as Claim
 use Rattle.planner.specs.Promise.{plannedSays, PlansSheet}
 use Rattle.planner.specs.declared.Planned.{Planned}
 use Rattle.planner.specs.declared.Planned.the-variants as Planned
-use Rattle.bench.specs.Promise.{intervalNumber, refusedNumber, foundNumber, undecidedNumber, planNumber}
+use Rattle.bench.specs.Promise.{intervalNumber, refusedNumber, foundNumber, undecidedNumber, planNumber, checkNumber, weightsNumber}
 
 -- ---- refusals
 
@@ -103,3 +109,27 @@ undecided-few s plan r after plans k told =
 
 pub kind-told : (kind told : Kind) (n : ℕ) → kind ≡ told → n ≡ kindNumber told + 1 → n ≡ kindNumber kind + 1
 kind-told kind told n e h = rw e h
+
+-- ---- the judge
+
+pub refusal-told : (why told : Refusal) (n : ℕ) → why ≡ told → n ≡ checkNumber (refusalSays told) → n ≡ checkNumber (refusalSays why)
+refusal-told why told n e h = rw e h
+
+pub fault-told : (fault told : PlanFault) (n : ℕ) → fault ≡ told → n ≡ checkNumber (faultSays told) → n ≡ checkNumber (faultSays fault)
+fault-told fault told n e h = rw e h
+
+abbrev pub ClaimNumber : JudgedClaim → ℕ → Type 0
+ClaimNumber a n = n ≡ checkNumber (claimAnswered a) + weightsNumber (claimWeighed a)
+
+pub claim-refused : (a : JudgedClaim) (why : Refusal) (n : ℕ) → a ≡ Claim.Refused why → n ≡ checkNumber (refusalSays why) → ClaimNumber a n
+claim-refused a why n e h = rw e (omega arith)
+
+pub claim-no-interval : (a : JudgedClaim) → a ≡ Claim.NoInterval → ClaimNumber a 17
+claim-no-interval a e = rw e
+
+module _ (a : JudgedClaim) (sums : Sums) (n : ℕ) (said : n ≡ weightsNumber (sumsSay sums)) where
+  pub claim-not-overloaded : a ≡ Claim.NotOverloaded sums → ClaimNumber a (18 + n)
+  claim-not-overloaded e = rw e (omega arith)
+
+  pub claim-accepted : a ≡ Claim.Accepted sums → ClaimNumber a n
+  claim-accepted e = rw e (omega arith)

@@ -1,8 +1,8 @@
 -- What the timed calls promise, for any bytes and any buffer.
-use Prim.Native.Nat.{ℕ, _+_, _*_}
+use Prim.Native.Nat.{ℕ, _+_, _*_, _%_}
 use mathlib.Core.Path.{_≡_}
 use mathlib.Core.List.{List}
-use Rattle.sheet.specs.Paper.{Paper, gives, refuses, refusesAt, whereGiven}
+use Rattle.sheet.specs.Paper.{Paper, Check, gives, refuses, refusesAt, whereGiven}
 use Rattle.sheet.specs.Table.{tableSays}
 use Rattle.sheet.specs.declared.Table.{Table}
 use Rattle.sheet.specs.Sheet.{tableRead, harvestRead, writeSays, bufferWritten}
@@ -10,6 +10,7 @@ use Rattle.demand.specs.Search.{Interval, Answer, overloaded-is, none-is, searc
 use Rattle.slot_run.specs.Promise.{noState, stateAfter}
 use Rattle.slot_run.specs.Rules.{firstState}
 use Rattle.slot_run.specs.declared.State.{State}
+use Rattle.judge.specs.Judge.{planOnSheet, claimOnSheet, Weights, weightsOnSheet}
 use Rattle.planner.specs.Plan.{Verdict, overloaded, met, undecided, planSheet, sheetPlanned}
 
 -- ---- there and back
@@ -74,3 +75,23 @@ startOf t harvest = whereGiven (tableSays t harvest) (firstState t) noState
 -- the level after one step from there, on what the reader yields
 abbrev pub FirstSteps : List ℕ → ℕ → Type 0
 FirstSteps s r = r ≡ stateAfter (tableRead s) (harvestRead s) (startOf (tableRead s) (harvestRead s)) .level
+
+-- ---- the judge
+
+-- a check as one number: 0 for leave, else the refusal's number, which is below 32, and 32 times its place, of which eleven bits are kept
+abbrev pub checkNumber : Check → ℕ
+checkNumber (gives u) = 0
+checkNumber (refuses n) = n
+checkNumber (refusesAt n place) = n + 32 * (place % 2048)
+
+-- a plan against a sheet
+abbrev pub JudgesPlan : List ℕ → List ℕ → ℕ → Type 0
+JudgesPlan s plan r = r ≡ checkNumber (planOnSheet s plan)
+
+-- what was weighed, above every check's number: 26 bits of the demand, and above them 20 of the supply
+abbrev pub weightsNumber : Weights → ℕ
+weightsNumber w = 65536 * (w .demand % 67108864) + 4398046511104 * (w .supply % 1048576)
+
+-- a claim against a sheet: the answer, and what was weighed
+abbrev pub JudgesClaim : List ℕ → (kind from to r : ℕ) → Type 0
+JudgesClaim s kind from to r = r ≡ checkNumber (claimOnSheet s kind from to) + weightsNumber (weightsOnSheet s kind from to)

@@ -1,18 +1,25 @@
 // The calls that the benchmark times and measures: a sheet is read and written back, searched, planned,
-// and stepped.
+// and stepped, and evidence is judged against it.
 use demand::Kind;
 use demand::Overload;
 use demand::Searched;
+use judge::JudgedClaim;
+use judge::JudgedPlan;
+use judge::PlanFault;
+use judge::Sums;
 use planner::Planned;
+use sheet::Refusal;
 use writer::Written;
 ghost use mathlib.Core.Path.{_≡_};
-ghost use Prim.Native.Nat.{ℕ, _+_, _<_, _≤_};
+ghost use Prim.Native.Nat.{ℕ, _+_, _*_, _%_, _<_, _≤_};
+ghost use Rattle.sheet.specs.Refusals.{refusalSays};
 ghost use Rattle.sheet.specs.Table.{mostJobs};
 ghost use Rattle.demand.specs.Demand.{kindNumber};
 ghost use Rattle.demand.specs.Search.{searchedSays, overloadSays};
+ghost use Rattle.judge.specs.Promise.{faultSays, planAnswered, sumsSay, claimAnswered, claimWeighed};
 ghost use Rattle.planner.specs.Promise.{plannedSays};
 ghost use Rattle.writer.specs.Promise.{writtenSays};
-ghost use Rattle.bench.specs.Promise.{lengthOr0, intervalNumber, foundNumber, planNumber, ThereAndBack, Searches, Plans, FirstSteps};
+ghost use Rattle.bench.specs.Promise.{lengthOr0, intervalNumber, foundNumber, planNumber, checkNumber, weightsNumber, ThereAndBack, Searches, Plans, FirstSteps, JudgesPlan, JudgesClaim};
 
 // The numbers beside an interval's: a refusal's, and an undecided day's with its job 0.
 const REFUSED: u64 = 1 << 40;
@@ -120,4 +127,107 @@ pub extern "C" fn gishronek_first_step(bytes: &[u8]) -> u64
     let start = slot_run::begin(reading.table, harvest);
     let stepped = slot_run::step(reading.table, harvest, start.state);
     stepped.state.level as u64
+}
+
+// A judge's answer as one number: the refusal's own in the lowest five bits, 0 where the evidence is
+// accepted, and the place that it names in the next eleven. A place is a job's number or a slot's, so
+// it is below 1,440 and no bit of it is lost.
+const PLACES: usize = 2048;
+
+const A_PLACE: u64 = 32;
+
+// A refusal that names a place, as one number.
+fn number_at(number: u64, place: usize) -> u64
+    requires { ⌜ number < 32 ⌝ }
+    ensures { λ r. ⌜ r ≡ number + 32 * (place % 2048) ⌝ }
+{
+    number + A_PLACE * ((place % PLACES) as u64)
+}
+
+// A refusal of a sheet as one number.
+fn refusal_number(why: Refusal) -> u64
+    ensures { λ r. ⌜ r ≡ checkNumber (refusalSays why) ⌝ }
+{
+    match why {
+        Refusal::Short => 1,
+        Refusal::Mark => 2,
+        Refusal::Counts => 3,
+        Refusal::Layout => 4,
+        Refusal::Window(k) => number_at(5, k),
+        Refusal::Work(k) => number_at(6, k),
+    }
+}
+
+// A refusal of a plan as one number.
+fn fault_number(fault: PlanFault) -> u64
+    ensures { λ r. ⌜ r ≡ checkNumber (faultSays fault) ⌝ }
+{
+    match fault {
+        PlanFault::WrongLength => 11,
+        PlanFault::NoJob(i) => number_at(12, i),
+        PlanFault::OutsideWindow(i) => number_at(13, i),
+        PlanFault::HasAllSlots(i) => number_at(14, i),
+        PlanFault::LacksCharge(i) => number_at(15, i),
+        PlanFault::LacksSlots(k) => number_at(16, k),
+    }
+}
+
+// The judge's answer to a plan as one number.
+fn judged_plan_number(answer: JudgedPlan) -> u64
+    ensures { λ r. ⌜ r ≡ checkNumber (planAnswered answer) ⌝ }
+{
+    match answer {
+        JudgedPlan::Refused(why) => refusal_number(why),
+        JudgedPlan::Faulty(fault) => fault_number(fault),
+        JudgedPlan::Accepted => 0,
+    }
+}
+
+// Judges the plan in `plan`, a byte a slot, against the sheet in `bytes`: 0 where it is accepted, else
+// the refusal's number, and 32 times the place that it names. No byte is written.
+#[no_mangle]
+pub extern "C" fn gishronek_judge_plan(bytes: &[u8], plan: &[u8]) -> u64
+    ensures { λ r. ⌜ JudgesPlan (now (bytes .entry)) (now (plan .entry)) r ⌝ }
+{
+    judged_plan_number(judge::plan_on_sheet(bytes, plan))
+}
+
+// What a claim weighed stands above its answer: the demand in 26 bits, then the supply in 20. A demand
+// is at most 64 × 1,440 × 255 and a supply at most 65,535 + 1,440 × 255, so no bit of them is lost.
+const DEMANDS: u64 = 1 << 26;
+
+const SUPPLIES: u64 = 1 << 20;
+
+const A_DEMAND: u64 = 1 << 16;
+
+const A_SUPPLY: u64 = 1 << 42;
+
+// What was weighed as one number, which leaves room for the answer.
+fn sums_number(sums: Sums) -> u64
+    ensures { λ r. ⌜ (r ≡ weightsNumber (sumsSay sums)) × (r < 4611686018427387904) ⌝ }
+{
+    A_DEMAND * (sums.demand as u64 % DEMANDS) + A_SUPPLY * (sums.supply as u64 % SUPPLIES)
+}
+
+// The judge's answer to a claim as one number.
+fn judged_claim_number(answer: JudgedClaim) -> u64
+    ensures { λ r. ⌜ r ≡ checkNumber (claimAnswered answer) + weightsNumber (claimWeighed answer) ⌝ }
+{
+    match answer {
+        JudgedClaim::Refused(why) => refusal_number(why),
+        JudgedClaim::NoInterval => 17,
+        JudgedClaim::NotOverloaded(sums) => 18 + sums_number(sums),
+        JudgedClaim::Accepted(sums) => sums_number(sums),
+    }
+}
+
+// Judges a claim, that the slots from `start` up to, not including, `end` are overloaded in a kind, 0
+// for time and 1 for energy, against the sheet in `bytes`: 0 where it is accepted, else the refusal's
+// number, and 32 times the place that it names; to that are added 2^16 times the demand and 2^42 times
+// the supply that were weighed, both 0 where nothing was.
+#[no_mangle]
+pub extern "C" fn gishronek_judge_claim(bytes: &[u8], kind: u64, start: u64, end: u64) -> u64
+    ensures { λ r. ⌜ JudgesClaim (now (bytes .entry)) kind start end r ⌝ }
+{
+    judged_claim_number(judge::claim_on_sheet(bytes, kind, start, end))
 }

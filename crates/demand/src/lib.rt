@@ -51,7 +51,7 @@ pub fn is_within(from: u16, to: u16, release: u16, deadline: u16) -> bool
 }
 
 // The amount where it counts, otherwise 0.
-pub fn counted_if(counts: bool, amount: u32) -> u32
+fn counted_if(counts: bool, amount: u32) -> u32
     ensures { λ r. ⌜ (r ≡ cond counts amount 0) × (r ≤ amount) ⌝ }
 {
     if counts { amount } else { 0 }

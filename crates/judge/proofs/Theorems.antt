@@ -200,9 +200,9 @@ module _ (s plan : List ℕ) (r : JudgedPlan) (judged : JudgesSheetPlan s plan r
   sheet-plan-faulty-exactly = plan-faulty (sheet-first s) (tableIn s) (harvestIn s) plan r (judged .answer)
 
   -- 1 to 6 are given exactly as every call gives them
-  pub sheet-plan-refused-exactly : (why : Refusal) → (r ≡ Plan.Refused why) ↔ GivenFirst (sheetStates s) why
+  pub judged-sheet-refused-exactly : (why : Refusal) → (r ≡ Plan.Refused why) ↔ GivenFirst (sheetStates s) why
   unfolding planOnSheet sheet-first
-  sheet-plan-refused-exactly = plan-refused (sheet-first s) (tableIn s) (harvestIn s) plan r (judged .answer)
+  judged-sheet-refused-exactly = plan-refused (sheet-first s) (tableIn s) (harvestIn s) plan r (judged .answer)
 
 -- the same on a table with its harvest
 module _ (t : Table) (harvest plan : List ℕ) (r : JudgedPlan) (judged : JudgesTablePlan t harvest plan r) where
@@ -214,9 +214,9 @@ module _ (t : Table) (harvest plan : List ℕ) (r : JudgedPlan) (judged : Judges
   unfolding planOnTable table-first
   table-plan-faulty-exactly = plan-faulty (table-first t harvest) t harvest plan r (judged .answer)
 
-  pub table-plan-refused-exactly : (why : Refusal) → (r ≡ Plan.Refused why) ↔ GivenFirst (tableStates t harvest) why
+  pub judged-table-refused-exactly : (why : Refusal) → (r ≡ Plan.Refused why) ↔ GivenFirst (tableStates t harvest) why
   unfolding planOnTable table-first
-  table-plan-refused-exactly = plan-refused (table-first t harvest) t harvest plan r (judged .answer)
+  judged-table-refused-exactly = plan-refused (table-first t harvest) t harvest plan r (judged .answer)
 
 -- ---- a claim: any two results that a promise allows are equal
 
@@ -448,9 +448,9 @@ module _ (s : List ℕ) (claimed from to : ℕ) (r : JudgedClaim) (judged : Judg
   sheet-claim-eighteen-exactly = is-eighteen (sheet-first s) (tableIn s) (harvestIn s) claimed from to r (judged .answer)
 
   -- 1 to 6 are given exactly as every call gives them
-  pub sheet-claim-refused-exactly : (why : Refusal) → (claimAnswered r ≡ refusalSays why) ↔ GivenFirst (sheetStates s) why
+  pub claimed-sheet-refused-exactly : (why : Refusal) → (claimAnswered r ≡ refusalSays why) ↔ GivenFirst (sheetStates s) why
   unfolding claimOnSheet sheet-first
-  sheet-claim-refused-exactly = is-refused (sheet-first s) (tableIn s) (harvestIn s) claimed from to r (judged .answer)
+  claimed-sheet-refused-exactly = is-refused (sheet-first s) (tableIn s) (harvestIn s) claimed from to r (judged .answer)
 
 -- the same on a table with its harvest
 module _ (t : Table) (harvest : List ℕ) (claimed from to : ℕ) (r : JudgedClaim) (judged : JudgesTableClaim t harvest claimed from to r) where
@@ -467,6 +467,6 @@ module _ (t : Table) (harvest : List ℕ) (claimed from to : ℕ) (r : JudgedCla
   unfolding claimOnTable table-first
   table-claim-eighteen-exactly = is-eighteen (table-first t harvest) t harvest claimed from to r (judged .answer)
 
-  pub table-claim-refused-exactly : (why : Refusal) → (claimAnswered r ≡ refusalSays why) ↔ GivenFirst (tableStates t harvest) why
+  pub claimed-table-refused-exactly : (why : Refusal) → (claimAnswered r ≡ refusalSays why) ↔ GivenFirst (tableStates t harvest) why
   unfolding claimOnTable table-first
-  table-claim-refused-exactly = is-refused (table-first t harvest) t harvest claimed from to r (judged .answer)
+  claimed-table-refused-exactly = is-refused (table-first t harvest) t harvest claimed from to r (judged .answer)

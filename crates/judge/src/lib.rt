@@ -234,9 +234,9 @@ fn demand_of(t: Table, kind: Kind, from: u16, to: u16) -> u32
     let mut demand: u32 = 0;
     let mut k = 0;
     while k < count {
-        let j = t.jobs[k];
-        let counts = demand::is_within(from, to, j.release, j.deadline);
-        demand += demand::counted_if(counts, share(kind, j));
+        if demand::is_within(from, to, t.jobs[k].release, t.jobs[k].deadline) {
+            demand += share(kind, t.jobs[k]);
+        }
         k += 1;
     }
     demand

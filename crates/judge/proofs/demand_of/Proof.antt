@@ -1,7 +1,8 @@
 -- The loop keeps: the demand is the sum of what the jobs before k add to it.
 use Prim.Native.Nat.{ℕ, _≤_, _<_, _+_, _-_, _*_}
 use mathlib.Core.Path.{_≡_, refl, sym, ap, ap₂, _∙_}
-use mathlib.Core.Bool.{Bool, cond}
+use mathlib.Core.Bool.{Bool, true, false, cond}
+use mathlib.Core.Logic.{⊎-elim}
 use native.Mathlib.Omega.{arith}
 use Rattle.sheet.specs.InColumns.{mostCost}
 use Rattle.sheet.specs.Sums.{total}
@@ -10,6 +11,12 @@ use Rattle.judge.proofs.Weighing.{partOf, part-read, demand-is}
 use borrow.Author.Needs.{needs}
 use Rattle.judge.proofs.demand_of.Statement.{statement}
 use Rattle.judge.proofs.demand_of.Tie as tie
+
+counted : (counts : Bool) (share : ℕ) → counts ≡ true → share ≡ cond counts share 0
+counted counts share e = rw e
+
+passed-over : (counts : Bool) (share : ℕ) → counts ≡ false → 0 ≡ cond counts share 0
+passed-over counts share e = rw e
 
 abbrev Inv-loop : tie.InvT-loop
 Inv-loop kind from to t count demand₀ k₀ demand k = (count ≡ t .count) × (k ≤ count) × (demand ≡ total (partOf kind t from to) k) × (demand ≤ mostCost * k)
@@ -20,20 +27,29 @@ abbrev μ-loop : tie.MeasureT-loop
 loop-holds : tie.Need-loop-holds Inv-loop μ-loop
 loop-holds c = (refl, search needs, sym (total-none _), search needs)
 
-mul-j : tie.Need-mul-j Inv-loop μ-loop
-mul-j c = search needs
+mul-is-within : tie.Need-mul-is-within Inv-loop μ-loop
+mul-is-within c = search needs
 
-element-copy-out-j : tie.Need-element-copy-out-j Inv-loop μ-loop
-element-copy-out-j c = search needs
+element-copy-out-is-within : tie.Need-element-copy-out-is-within Inv-loop μ-loop
+element-copy-out-is-within c = search needs
+
+mul-is-within-2 : tie.Need-mul-is-within-2 Inv-loop μ-loop
+mul-is-within-2 c = search needs
+
+element-copy-out-is-within-2 : tie.Need-element-copy-out-is-within-2 Inv-loop μ-loop
+element-copy-out-is-within-2 c = search needs
 
 is-within-requires : tie.Need-is-within-requires Inv-loop μ-loop
 is-within-requires c κs = search needs
 
+mul-share : tie.Need-mul-share Inv-loop μ-loop
+mul-share c = search needs
+
+element-copy-out-share : tie.Need-element-copy-out-share Inv-loop μ-loop
+element-copy-out-share c = search needs
+
 share-requires : tie.Need-share-requires Inv-loop μ-loop
 share-requires c κs = search needs
-
-counted-if-requires : tie.Need-counted-if-requires Inv-loop μ-loop
-counted-if-requires c κs = search needs
 
 add-demand : tie.Need-add-demand Inv-loop μ-loop
 add-demand c = search needs
@@ -46,13 +62,23 @@ loop-less c = search needs
 
 loop-again : tie.Need-loop-again Inv-loop μ-loop
 loop-again c =
-    let at-loop = c .before .before .before .before .before in
+    let at-loop = c .before .before .before in
     let args = at-loop .before .args in
     let k = at-loop .loop .k in
-    let part = part-read (args .kind) (args .t1) (args .from) (args .to) k _ _ _ (c .before .before .is-within .ensures) (c .before .share .ensures .0) (c .counted-if .ensures .0) in
-    let small = c .before .share .ensures .1 in
-    let counted = c .counted-if .ensures .1 in
-    (refl, search needs, ap₂ _+_ (at-loop .loop .inv .2) part ∙ sym (total-more (partOf (args .kind) (args .t1) (args .from) (args .to)) k), omega arith)
+    let asked = c .before .is-within .ensures in
+    let more = total-more (partOf (args .kind) (args .t1) (args .from) (args .to)) k in
+    ⊎-elim
+    (λ w.
+    let part = part-read (args .kind) (args .t1) (args .from) (args .to) k _ _ _ asked (w .2 .ensures .0) (counted _ _ (w .0 .taken)) in
+    let small = w .2 .ensures .1 in
+    let is : c .if1 .demand ≡ at-loop .loop .demand + w .2 .result = w .3 in
+    (refl, search needs, is ∙ ap₂ _+_ (at-loop .loop .inv .2) part ∙ sym more, omega arith))
+    (λ w.
+    let none = part-read (args .kind) (args .t1) (args .from) (args .to) k 0 _ _ asked refl (passed-over _ _ (w .0 .left)) in
+    let is : c .if1 .demand ≡ at-loop .loop .demand = w .1 in
+    let same : at-loop .loop .demand ≡ at-loop .loop .demand + 0 = omega arith in
+    (refl, search needs, is ∙ same ∙ ap₂ _+_ (at-loop .loop .inv .2) none ∙ sym more, omega arith))
+    (c .if1 .came)
 
 returns : tie.Need-returns Inv-loop μ-loop
 returns c =
@@ -69,11 +95,14 @@ demand-of-spec =
     Inv-loop
     μ-loop
     loop-holds
-    mul-j
-    element-copy-out-j
+    mul-is-within
+    element-copy-out-is-within
+    mul-is-within-2
+    element-copy-out-is-within-2
     is-within-requires
+    mul-share
+    element-copy-out-share
     share-requires
-    counted-if-requires
     add-demand
     add-k
     loop-less
