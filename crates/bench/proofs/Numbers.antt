@@ -24,7 +24,8 @@ use Rattle.slot_run.specs.Choosing.{Choice, nobody, job, unfinished}
 use Rattle.slot_run.specs.Rules.{stateAt}
 use Rattle.slot_run.proofs.Choosing.{chosen-passes}
 use Rattle.planner.specs.Plan.{Verdict, undecided, byFound, byUnfinished, verdictOf, planSheet}
-use Rattle.judge.specs.Promise.{faultSays, sumsSay, claimAnswered, claimWeighed}
+use Rattle.judge.specs.Numbers.{faultSays}
+use Rattle.judge.specs.Promise.{claimAnswered, sumsTold}
 use Rattle.judge.specs.declared.PlanFault.{PlanFault}
 use Rattle.judge.specs.declared.Sums.{Sums}
 use Rattle.judge.specs.declared.JudgedClaim.{JudgedClaim}
@@ -32,7 +33,7 @@ use Rattle.judge.specs.declared.JudgedClaim.the-variants as Claim
 use Rattle.planner.specs.Promise.{plannedSays, PlansSheet}
 use Rattle.planner.specs.declared.Planned.{Planned}
 use Rattle.planner.specs.declared.Planned.the-variants as Planned
-use Rattle.bench.specs.Promise.{intervalNumber, refusedNumber, foundNumber, undecidedNumber, planNumber, checkNumber, weightsNumber}
+use Rattle.bench.specs.Promise.{intervalNumber, refusedNumber, foundNumber, undecidedNumber, planNumber, checkNumber, sumsNumber}
 
 -- ---- refusals
 
@@ -119,7 +120,7 @@ pub fault-told : (fault told : PlanFault) (n : ℕ) → fault ≡ told → n ≡
 fault-told fault told n e h = rw e h
 
 abbrev pub ClaimNumber : JudgedClaim → ℕ → Type 0
-ClaimNumber a n = n ≡ checkNumber (claimAnswered a) + weightsNumber (claimWeighed a)
+ClaimNumber a n = n ≡ checkNumber (claimAnswered a) + sumsNumber (sumsTold a)
 
 pub claim-refused : (a : JudgedClaim) (why : Refusal) (n : ℕ) → a ≡ Claim.Refused why → n ≡ checkNumber (refusalSays why) → ClaimNumber a n
 claim-refused a why n e h = rw e (omega arith)
@@ -127,7 +128,7 @@ claim-refused a why n e h = rw e (omega arith)
 pub claim-no-interval : (a : JudgedClaim) → a ≡ Claim.NoInterval → ClaimNumber a 17
 claim-no-interval a e = rw e
 
-module _ (a : JudgedClaim) (sums : Sums) (n : ℕ) (said : n ≡ weightsNumber (sumsSay sums)) where
+module _ (a : JudgedClaim) (sums : Sums) (n : ℕ) (said : n ≡ sumsNumber sums) where
   pub claim-not-overloaded : a ≡ Claim.NotOverloaded sums → ClaimNumber a (18 + n)
   claim-not-overloaded e = rw e (omega arith)
 

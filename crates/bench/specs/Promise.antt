@@ -10,7 +10,8 @@ use Rattle.demand.specs.Search.{Interval, Answer, overloaded-is, none-is, searc
 use Rattle.slot_run.specs.Promise.{noState, stateAfter}
 use Rattle.slot_run.specs.Rules.{firstState}
 use Rattle.slot_run.specs.declared.State.{State}
-use Rattle.judge.specs.Judge.{planOnSheet, claimOnSheet, Weights, weightsOnSheet}
+use Rattle.judge.specs.declared.Sums.{Sums}
+use Rattle.judge.specs.Judge.{planOnSheet, claimOnSheet, sumsOnSheet}
 use Rattle.planner.specs.Plan.{Verdict, overloaded, met, undecided, planSheet, sheetPlanned}
 
 -- ---- there and back
@@ -89,9 +90,9 @@ abbrev pub JudgesPlan : List ℕ → List ℕ → ℕ → Type 0
 JudgesPlan s plan r = r ≡ checkNumber (planOnSheet s plan)
 
 -- what was weighed, above every check's number: 26 bits of the demand, and above them 20 of the supply
-abbrev pub weightsNumber : Weights → ℕ
-weightsNumber w = 65536 * (w .demand % 67108864) + 4398046511104 * (w .supply % 1048576)
+abbrev pub sumsNumber : Sums → ℕ
+sumsNumber w = 65536 * (w .demand % 67108864) + 4398046511104 * (w .supply % 1048576)
 
 -- a claim against a sheet: the answer, and what was weighed
 abbrev pub JudgesClaim : List ℕ → (kind from to r : ℕ) → Type 0
-JudgesClaim s kind from to r = r ≡ checkNumber (claimOnSheet s kind from to) + weightsNumber (weightsOnSheet s kind from to)
+JudgesClaim s kind from to r = r ≡ checkNumber (claimOnSheet s kind from to) + sumsNumber (sumsOnSheet s kind from to)

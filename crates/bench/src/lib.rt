@@ -16,10 +16,11 @@ ghost use Rattle.sheet.specs.Refusals.{refusalSays};
 ghost use Rattle.sheet.specs.Table.{mostJobs};
 ghost use Rattle.demand.specs.Demand.{kindNumber};
 ghost use Rattle.demand.specs.Search.{searchedSays, overloadSays};
-ghost use Rattle.judge.specs.Promise.{faultSays, planAnswered, sumsSay, claimAnswered, claimWeighed};
+ghost use Rattle.judge.specs.Numbers.{faultSays};
+ghost use Rattle.judge.specs.Promise.{planAnswered, claimAnswered, sumsTold};
 ghost use Rattle.planner.specs.Promise.{plannedSays};
 ghost use Rattle.writer.specs.Promise.{writtenSays};
-ghost use Rattle.bench.specs.Promise.{lengthOr0, intervalNumber, foundNumber, planNumber, checkNumber, weightsNumber, ThereAndBack, Searches, Plans, FirstSteps, JudgesPlan, JudgesClaim};
+ghost use Rattle.bench.specs.Promise.{lengthOr0, intervalNumber, foundNumber, planNumber, checkNumber, sumsNumber, ThereAndBack, Searches, Plans, FirstSteps, JudgesPlan, JudgesClaim};
 
 // The numbers beside an interval's: a refusal's, and an undecided day's with its job 0.
 const REFUSED: u64 = 1 << 40;
@@ -204,14 +205,14 @@ const A_SUPPLY: u64 = 1 << 42;
 
 // What was weighed as one number, which leaves room for the answer.
 fn sums_number(sums: Sums) -> u64
-    ensures { λ r. ⌜ (r ≡ weightsNumber (sumsSay sums)) × (r < 4611686018427387904) ⌝ }
+    ensures { λ r. ⌜ (r ≡ sumsNumber sums) × (r < 4611686018427387904) ⌝ }
 {
     A_DEMAND * (sums.demand as u64 % DEMANDS) + A_SUPPLY * (sums.supply as u64 % SUPPLIES)
 }
 
 // The judge's answer to a claim as one number.
 fn judged_claim_number(answer: JudgedClaim) -> u64
-    ensures { λ r. ⌜ r ≡ checkNumber (claimAnswered answer) + weightsNumber (claimWeighed answer) ⌝ }
+    ensures { λ r. ⌜ r ≡ checkNumber (claimAnswered answer) + sumsNumber (sumsTold answer) ⌝ }
 {
     match answer {
         JudgedClaim::Refused(why) => refusal_number(why),

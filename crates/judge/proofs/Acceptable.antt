@@ -18,8 +18,8 @@ use Rattle.sheet.proofs.Exactly.{either, never-both}
 use Rattle.sheet.proofs.Theorems.{not-of, or-of, below, differs}
 use Rattle.sheet.proofs.Words.{or-left, or-right, or-false, and-left, and-right, and-true}
 use Rattle.judge.specs.Evidence.{byteOf, namesJob, slotsGot, levelAt, AcceptablePlan}
-use Rattle.judge.specs.Judge.{noJob, outsideWindow, hasAllSlots, lacksCharge, lacksSlots, planSays}
-use Rattle.judge.specs.Promise.{faultSays}
+use Rattle.judge.specs.Judge.{namesNothing, outsideWindow, hasAllSlots, lacksCharge, planSays}
+use Rattle.judge.specs.Numbers.{faultSays}
 use Rattle.judge.specs.Stated.{RunsIn, planStates, planTurn, PlanGivenFirst}
 use Rattle.judge.specs.declared.PlanFault.{PlanFault}
 use Rattle.judge.specs.declared.PlanFault.the-variants.{WrongLength, NoJob, OutsideWindow, HasAllSlots, LacksCharge, LacksSlots}
@@ -46,8 +46,8 @@ outside-words release deadline i = (
 
 module _ (t : Table) (harvest plan : List ℕ) where
   -- 12 in words
-  no-job-words : (i : ℕ) → (noJob t plan i ≡ true) ↔ ((byteOf plan i ≡ idleByte → ⊥) × (t .count ≤ byteOf plan i))
-  unfolding noJob
+  no-job-words : (i : ℕ) → (namesNothing t plan i ≡ true) ↔ ((byteOf plan i ≡ idleByte → ⊥) × (t .count ≤ byteOf plan i))
+  unfolding namesNothing
   no-job-words i = (
     (λ e.
         let none = not-true _ e in (

@@ -11,7 +11,7 @@ use lib.Dec.{ltb, eqb}
 use lib.ListN.{length, getD, set}
 use lib.Seq.{getD-set-same, getD-set-other}
 use borrow.Author.Tests.{lt-ltb, le-ltb, eq-eqb, ne-eqb}
-use Rattle.sheet.specs.Paper.{Check, gives, refuses, refusesAt, givenAt, _else_, inOrder}
+use Rattle.sheet.specs.Paper.{Check, gives, _else_, inOrder}
 use Rattle.sheet.specs.Sums.{total, totalOf, harvestAt}
 use Rattle.sheet.specs.Table.{mostJobs, idleByte, startLevel, jobOf}
 use Rattle.sheet.specs.declared.Table.{Table}
@@ -19,16 +19,13 @@ use Rattle.sheet.proofs.Sums.{total-none, total-more}
 use Rattle.judge.specs.Evidence.{byteOf, namesJob, slotsGot, spentIn, levelAt}
 use Rattle.sheet.specs.declared.Job.{Job}
 use Rattle.sheet.proofs.Order.{Refuses, else-stays, else-goes-on, in-order-first, in-order-same}
-use Rattle.judge.specs.Judge.{noJob, outsideWindow, hasAllSlots, lacksCharge, jobSays, slotSays, lacksSlots}
-use Rattle.judge.specs.Promise.{faultSays}
-use Rattle.judge.specs.Steps.{findingSays, endSays, endsSay, slotsSay}
+use Rattle.judge.specs.Judge.{namesNothing, outsideWindow, hasAllSlots, lacksCharge, jobSays, slotSays, endSays, slotsSay}
+use Rattle.judge.specs.Numbers.{faultSays, _applies-when_}
+use Rattle.judge.specs.Steps.{findingSays, endBy, endsBy}
 use Rattle.judge.specs.declared.PlanFault.{PlanFault}
 use Rattle.judge.specs.declared.PlanFault.the-variants.{WrongLength, NoJob, OutsideWindow, HasAllSlots, LacksCharge, LacksSlots}
 use Rattle.judge.specs.declared.Finding.{Finding}
 use Rattle.judge.specs.declared.Finding.the-variants.{Nothing, Fault}
-
-pub given-not-refused : (n place : ℕ) → _≡_ {A = Check} (refusesAt n place) (gives tt) → ⊥
-given-not-refused n place e = subst (λ (c : Check). Refuses c) e tt
 
 -- ---- the slots that a job got
 
@@ -69,7 +66,7 @@ module _ (t : Table) (harvest plan : List ℕ) where
     names-none = let h : t .count ≤ byteOf plan i = omega arith in le-ltb _ _ h
 
     pub idle-says : slotSays t harvest plan i ≡ gives tt
-    unfolding slotSays noJob
+    unfolding slotSays namesNothing
     idle-says = rw (names-none, eq-eqb _ _ idle)
 
     pub idle-level : levelAt t harvest plan (i + 1) ≡ min (t .capacity) (chargeAt i)
@@ -79,16 +76,16 @@ module _ (t : Table) (harvest plan : List ℕ) where
     pub idle-got : (k : ℕ) → k < t .count → slotsGot plan k (i + 1) ≡ slotsGot plan k i
     idle-got k h = got-not-here plan k i (λ e. omega arith)
 
-  pub stranger-says : (i : ℕ) → (byteOf plan i ≡ idleByte → ⊥) → t .count ≤ byteOf plan i → slotSays t harvest plan i ≡ refusesAt 12 i
-  unfolding slotSays noJob
+  pub stranger-says : (i : ℕ) → (byteOf plan i ≡ idleByte → ⊥) → t .count ≤ byteOf plan i → slotSays t harvest plan i ≡ faultSays (NoJob i)
+  unfolding slotSays namesNothing
   stranger-says i busy h = rw (ne-eqb _ _ busy, le-ltb _ _ h)
 
   module _ (i k : ℕ) (h : k < t .count) (named : byteOf plan i ≡ k) where
     names-it : namesJob t plan i ≡ true
     names-it = let l : byteOf plan i < t .count = omega arith in lt-ltb _ _ l
 
-    is-job : noJob t plan i ≡ false
-    unfolding noJob
+    is-job : namesNothing t plan i ≡ false
+    unfolding namesNothing
     is-job = let e = names-it in go (eqb (byteOf plan i) idleByte) e
       where
         go : (b : Bool) → namesJob t plan i ≡ true → not (b || namesJob t plan i) ≡ false
@@ -115,16 +112,16 @@ unfolding slotsSay
 first-refused t harvest plan i r h before here is-refusal =
     let says : inOrder (slotSays t harvest plan) (t .slots) ≡ r =
     in-order-first (slotSays t harvest plan) i (t .slots) h before (subst Refuses (sym here) is-refusal) ∙ here in
-    let ends : Check = inOrder (λ k. givenAt 16 k (lacksSlots t plan k)) (t .count) in
+    let ends : Check = inOrder (endSays t plan) (t .count) in
     ap (λ (x : Check). x else ends) says ∙ else-stays r ends is-refusal
 
 -- where no slot refuses, 16 decides
 pub ends-decide : (t : Table) (harvest plan got : List ℕ) → inOrder (slotSays t harvest plan) (t .slots) ≡ gives tt
-    → ((k : ℕ) → k < t .count → getD got k 0 ≡ slotsGot plan k (t .slots)) → endsSay t got ≡ slotsSay t harvest plan
-unfolding slotsSay endsSay
+    → ((k : ℕ) → k < t .count → getD got k 0 ≡ slotsGot plan k (t .slots)) → endsBy t got ≡ slotsSay t harvest plan
+unfolding slotsSay endsBy
 ends-decide t harvest plan got clear kept =
-    in-order-same (endSays t got) (λ k. givenAt 16 k (lacksSlots t plan k)) (t .count)
-    (λ k h. ap (λ (n : ℕ). givenAt 16 k (ltb n (jobOf t k .wanted))) (kept k h))
+    in-order-same (endBy t got) (endSays t plan) (t .count)
+    (λ k h. ap (λ (n : ℕ). LacksSlots k applies-when ltb n (jobOf t k .wanted)) (kept k h))
     ∙ sym (else-goes-on (inOrder (slotSays t harvest plan) (t .slots)) _ clear)
 
 -- a busy slot that is not refused: the job may run, lacks a slot, and can be paid
@@ -133,10 +130,11 @@ pub job-clear : (j : Job) (i got charge : ℕ) → jobSays j i got charge ≡ gi
 unfolding jobSays
 job-clear j i got charge e = go (outsideWindow j i) (hasAllSlots j got) (lacksCharge j charge) e
   where
-    go : (a b d : Bool) → (givenAt 13 i a else givenAt 14 i b else givenAt 15 i d) ≡ gives tt → (a ≡ false) × (b ≡ false) × (d ≡ false)
-    go true b d e = absurd (given-not-refused 13 i e)
-    go false true d e = absurd (given-not-refused 14 i e)
-    go false false true e = absurd (given-not-refused 15 i e)
+    go : (a b d : Bool) → (OutsideWindow i applies-when a else HasAllSlots i applies-when b else LacksCharge i applies-when d) ≡ gives tt
+        → (a ≡ false) × (b ≡ false) × (d ≡ false)
+    go true b d e = absurd (subst (λ (c : Check). Refuses c) e tt)
+    go false true d e = absurd (subst (λ (c : Check). Refuses c) e tt)
+    go false false true e = absurd (subst (λ (c : Check). Refuses c) e tt)
     go false false false e = (refl, refl, refl)
 
 -- what is found is a refusal, and what is said where nothing is found

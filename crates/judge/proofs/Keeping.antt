@@ -7,16 +7,18 @@ use native.Mathlib.Omega.{arith}
 use lib.ListN.{length, getD, set, replicate, length-set}
 use lib.Seq.{getD-set-same, getD-set-other}
 use borrow.Author.Tests.{ltb-false, leb-false}
-use Rattle.sheet.specs.Paper.{Check, gives, refusesAt, inOrder}
+use Rattle.sheet.specs.Paper.{Check, gives, inOrder}
 use Rattle.sheet.specs.Sums.{harvestAt}
 use Rattle.sheet.specs.Table.{mostJobs, idleByte, startLevel, jobOf}
 use Rattle.sheet.specs.declared.Table.{Table}
 use Rattle.sheet.proofs.Order.{Refuses, in-order-none, in-order-clear}
 use Rattle.sheet.proofs.Sums.{zeros-first}
 use Rattle.judge.specs.Evidence.{byteOf, slotsGot, levelAt}
-use Rattle.judge.specs.Judge.{jobSays, slotSays}
-use Rattle.judge.specs.Steps.{findingSays, endsSay, slotsSay}
+use Rattle.judge.specs.Judge.{jobSays, slotSays, slotsSay}
+use Rattle.judge.specs.Steps.{findingSays, endsBy}
+use Rattle.judge.specs.Numbers.{faultSays}
 use Rattle.judge.specs.declared.PlanFault.{PlanFault}
+use Rattle.judge.specs.declared.PlanFault.the-variants.{NoJob}
 use Rattle.judge.specs.declared.Finding.{Finding}
 use Rattle.judge.specs.declared.Finding.the-variants.{Nothing, Fault}
 use Rattle.judge.proofs.Judging.{got-none, got-here, got-not-here, level-first, idle-says, idle-level, idle-got, stranger-says, busy-says, busy-level, first-refused, ends-decide, job-clear, fault-refuses, nothing-gives, byte-stands}
@@ -64,11 +66,11 @@ module _ (t : Table) (harvest plan got : List ℕ) (level i byte charge : ℕ) (
         clear = in-order-clear (slotSays t harvest plan) i (kept .clear) (idle-says t harvest plan i (read .few) named);
       }
 
-  pub refused-stranger : (byte ≡ idleByte → ⊥) → t .count ≤ byte → refusesAt 12 i ≡ slotsSay t harvest plan
+  pub refused-stranger : (byte ≡ idleByte → ⊥) → t .count ≤ byte → faultSays (NoJob i) ≡ slotsSay t harvest plan
   refused-stranger busy h =
       let e = its-byte in
       sym
-      (first-refused t harvest plan i (refusesAt 12 i) (read .in-day) (kept .clear)
+      (first-refused t harvest plan i (faultSays (NoJob i)) (read .in-day) (kept .clear)
       (stranger-says t harvest plan i (λ q. busy (e ∙ q)) (subst (λ (n : ℕ). t .count ≤ n) e h)) tt)
 
   -- ---- a slot that names a job
@@ -115,7 +117,7 @@ module _ (t : Table) (harvest plan got : List ℕ) (level i byte charge : ℕ) (
           }
 
 -- after the last slot
-pub kept-decides : (t : Table) (harvest plan got : List ℕ) (level i : ℕ) → Kept t harvest plan got level i → i ≡ t .slots → endsSay t got ≡ slotsSay t harvest plan
+pub kept-decides : (t : Table) (harvest plan got : List ℕ) (level i : ℕ) → Kept t harvest plan got level i → i ≡ t .slots → endsBy t got ≡ slotsSay t harvest plan
 kept-decides t harvest plan got level i kept at-end =
     ends-decide t harvest plan got (subst (λ (n : ℕ). inOrder (slotSays t harvest plan) n ≡ gives tt) at-end (kept .clear))
     (λ k h. kept .got-is k h ∙ ap (slotsGot plan k) at-end)

@@ -10,18 +10,22 @@ use native.Mathlib.Omega.{arith}
 use lib.Dec.{ltb, eqb}
 use lib.ListN.{length}
 use borrow.Author.Tests.{lt-ltb, le-ltb, eq-eqb, ne-eqb}
-use Rattle.sheet.specs.Paper.{Check, gives, refuses, refusesAt, _given-when_, givenAt, _else_, inOrder}
+use Rattle.sheet.specs.Paper.{Check, gives, refuses, refusesAt, _else_, inOrder}
 use Rattle.sheet.specs.Sums.{harvestAt}
 use Rattle.sheet.specs.Table.{jobOf}
 use Rattle.sheet.specs.declared.Table.{Table}
 use Rattle.sheet.proofs.Exactly.{either, never-both}
 use Rattle.sheet.proofs.Order.{Refuses, else-stays, else-goes-on, in-order-decided}
 use Rattle.judge.specs.Evidence.{byteOf, namesJob, slotsGot, levelAt}
-use Rattle.judge.specs.Judge.{noJob, outsideWindow, hasAllSlots, lacksCharge, jobSays, slotSays, lacksSlots, planSays}
-use Rattle.judge.specs.Promise.{faultSays}
+use Rattle.judge.specs.Judge.{namesNothing, outsideWindow, hasAllSlots, lacksCharge, jobSays, slotSays, endSays, slotsSay, planSays}
+use Rattle.judge.specs.Numbers.{faultSays, _applies-when_}
 use Rattle.judge.specs.Stated.{planTurn}
 use Rattle.judge.specs.declared.PlanFault.{PlanFault}
 use Rattle.judge.specs.declared.PlanFault.the-variants.{WrongLength, NoJob, OutsideWindow, HasAllSlots, LacksCharge, LacksSlots}
+
+-- what 16 asks of job k
+abbrev pub lacksSlots : Table → List ℕ → ℕ → Bool
+lacksSlots t plan k = ltb (slotsGot plan k (t .slots)) (jobOf t k .wanted)
 
 -- a slot's refusals by the turn that they have in it, 12 first
 abbrev pub faultAt : ℕ → ℕ → PlanFault
@@ -30,13 +34,6 @@ faultAt (suc zero) i = OutsideWindow i
 faultAt (suc (suc zero)) i = HasAllSlots i
 faultAt (suc (suc (suc m))) i = LacksCharge i
 
-fault-says : (m i : ℕ) → m < 4 → faultSays (faultAt m i) ≡ refusesAt (12 + m) i
-fault-says zero i h = refl
-fault-says (suc zero) i h = refl
-fault-says (suc (suc zero)) i h = refl
-fault-says (suc (suc (suc zero))) i h = refl
-fault-says (suc (suc (suc (suc m)))) i h = absurd (omega arith)
-
 fault-turn : (t : Table) (m i : ℕ) → m < 4 → planTurn t (faultAt m i) ≡ 4 * i + 1 + m
 fault-turn t zero i h = omega arith
 fault-turn t (suc zero) i h = omega arith
@@ -44,21 +41,42 @@ fault-turn t (suc (suc zero)) i h = omega arith
 fault-turn t (suc (suc (suc zero))) i h = omega arith
 fault-turn t (suc (suc (suc (suc m)))) i h = absurd (omega arith)
 
+-- a refusal refuses, so what its check gave tells the test
+pub fault-refuses : (f : PlanFault) → Refuses (faultSays f)
+fault-refuses WrongLength = tt
+fault-refuses (NoJob i) = tt
+fault-refuses (OutsideWindow i) = tt
+fault-refuses (HasAllSlots i) = tt
+fault-refuses (LacksCharge i) = tt
+fault-refuses (LacksSlots k) = tt
+
+pub fault-not-given : (f : PlanFault) → faultSays f ≡ gives tt → ⊥
+fault-not-given f e = subst Refuses e (fault-refuses f)
+
+given-test : (f : PlanFault) (b : Bool) → (f applies-when b) ≡ gives tt → b ≡ false
+given-test f true e = absurd (fault-not-given f e)
+given-test f false e = refl
+
+refused-test : (f : PlanFault) (b : Bool) → Refuses (f applies-when b) → b ≡ true
+refused-test f true r = refl
+refused-test f false r = absurd r
+
 module _ (t : Table) (harvest plan : List ℕ) where
   -- ---- the tests of a slot
 
   unfoldable pub testAt : ℕ → ℕ → Bool
-  testAt zero i = noJob t plan i
+  testAt zero i = namesNothing t plan i
   testAt (suc zero) i = namesJob t plan i && outsideWindow (jobOf t (byteOf plan i)) i
   testAt (suc (suc zero)) i = namesJob t plan i && hasAllSlots (jobOf t (byteOf plan i)) (slotsGot plan (byteOf plan i) i)
   testAt (suc (suc (suc m))) i = namesJob t plan i && lacksCharge (jobOf t (byteOf plan i)) (levelAt t harvest plan i + harvestAt harvest i)
 
   inSlot : ℕ → ℕ → Check
-  inSlot i m = givenAt (12 + m) i (testAt m i)
+  inSlot i m = faultAt m i applies-when testAt m i
 
   four-tests : (i : ℕ) (a n b d e : Bool)
-      → (givenAt 12 i a else cond n (givenAt 13 i b else givenAt 14 i d else givenAt 15 i e) (gives tt))
-      ≡ (((givenAt 12 i a else givenAt 13 i (n && b)) else givenAt 14 i (n && d)) else givenAt 15 i (n && e))
+      → (NoJob i applies-when a
+      else cond n (OutsideWindow i applies-when b else HasAllSlots i applies-when d else LacksCharge i applies-when e) (gives tt))
+      ≡ (((NoJob i applies-when a else OutsideWindow i applies-when (n && b)) else HasAllSlots i applies-when (n && d)) else LacksCharge i applies-when (n && e))
   four-tests i true n b d e = refl
   four-tests i false true true d e = refl
   four-tests i false true false true e = refl
@@ -68,17 +86,9 @@ module _ (t : Table) (harvest plan : List ℕ) where
   slot-in-turn : (i : ℕ) → slotSays t harvest plan i ≡ inOrder (inSlot i) 4
   unfolding slotSays jobSays inOrder inSlot testAt
   slot-in-turn i =
-      four-tests i (noJob t plan i) (namesJob t plan i) (outsideWindow (jobOf t (byteOf plan i)) i)
+      four-tests i (namesNothing t plan i) (namesJob t plan i) (outsideWindow (jobOf t (byteOf plan i)) i)
       (hasAllSlots (jobOf t (byteOf plan i)) (slotsGot plan (byteOf plan i) i))
       (lacksCharge (jobOf t (byteOf plan i)) (levelAt t harvest plan i + harvestAt harvest i))
-
-  given-test : (n place : ℕ) (b : Bool) → givenAt n place b ≡ gives tt → b ≡ false
-  given-test n place true e = absurd (subst (λ (c : Check). Refuses c) e tt)
-  given-test n place false e = refl
-
-  refused-test : (n place : ℕ) (b : Bool) → Refuses (givenAt n place b) → b ≡ true
-  refused-test n place true r = refl
-  refused-test n place false r = absurd r
 
   -- a slot refuses nothing, and no test holds; or the first that holds is the answer
   abbrev SlotDecided : ℕ → Type 0
@@ -90,22 +100,22 @@ module _ (t : Table) (harvest plan : List ℕ) where
   unfolding inSlot
   slot-decided i =
       ⊎-elim
-      (λ c. inl ((λ m h. given-test (12 + m) i (testAt m i) (c .0 m h)), slot-in-turn i ∙ c .1))
+      (λ c. inl ((λ m h. given-test (faultAt m i) (testAt m i) (c .0 m h)), slot-in-turn i ∙ c .1))
       (λ w.
       let m = w .0 in
-      let holds = refused-test (12 + m) i (testAt m i) (w .3) in
+      let holds = refused-test (faultAt m i) (testAt m i) (w .3) in
       inr (
         m,
         w .1,
-        (λ n l. given-test (12 + n) i (testAt n i) (w .2 n l)),
+        (λ n l. given-test (faultAt n i) (testAt n i) (w .2 n l)),
         holds,
-        slot-in-turn i ∙ w .4 ∙ ap (givenAt (12 + m) i) holds ∙ sym (fault-says m i (w .1)),
+        slot-in-turn i ∙ w .4 ∙ ap (λ (b : Bool). faultAt m i applies-when b) holds,
       ))
       (in-order-decided (inSlot i) 4)
 
   slot-clear : (i : ℕ) → slotSays t harvest plan i ≡ gives tt → (m : ℕ) → m < 4 → testAt m i ≡ false
   slot-clear i e =
-      ⊎-elim (λ c. c .0) (λ w. absurd (subst (λ (c : Check). Refuses c) (sym (fault-says (w .0) i (w .1)) ∙ sym (w .4) ∙ e) tt)) (slot-decided i)
+      ⊎-elim (λ c. c .0) (λ w. absurd (fault-not-given (faultAt (w .0) i) (sym (w .4) ∙ e))) (slot-decided i)
 
   -- ---- a refusal applies, by itself
 
@@ -140,8 +150,8 @@ module _ (t : Table) (harvest plan : List ℕ) where
       none g h a = omega arith
 
   module _ (fits : not (eqb (length plan) (t .slots)) ≡ false) where
-    says-rest : planSays t harvest plan ≡ (inOrder (slotSays t harvest plan) (t .slots) else inOrder (λ k. givenAt 16 k (lacksSlots t plan k)) (t .count))
-    unfolding planSays
+    says-rest : planSays t harvest plan ≡ (inOrder (slotSays t harvest plan) (t .slots) else inOrder (endSays t plan) (t .count))
+    unfolding planSays slotsSay
     says-rest = rw fits
 
     -- the slots before i are clear, and so are the tests of slot i before the m-th
@@ -196,18 +206,18 @@ module _ (t : Table) (harvest plan : List ℕ) where
 
       by-ends : inOrder (slotSays t harvest plan) (t .slots) ≡ gives tt → Decided
       by-ends says =
-          let rest = says-rest ∙ else-goes-on (inOrder (slotSays t harvest plan) (t .slots)) (inOrder (λ k. givenAt 16 k (lacksSlots t plan k)) (t .count)) says in
+          let rest = says-rest ∙ else-goes-on (inOrder (slotSays t harvest plan) (t .slots)) (inOrder (endSays t plan) (t .count)) says in
           ⊎-elim
-          (λ c. inl (rest ∙ c .1, none-at-all (λ k h. given-test 16 k (lacksSlots t plan k) (c .0 k h))))
+          (λ c. inl (rest ∙ c .1, none-at-all (λ k h. given-test (LacksSlots k) (lacksSlots t plan k) (c .0 k h))))
           (λ w.
           let k = w .0 in
-          let holds = refused-test 16 k (lacksSlots t plan k) (w .3) in
+          let holds = refused-test (LacksSlots k) (lacksSlots t plan k) (w .3) in
           inr (
             LacksSlots k,
-            rest ∙ w .4 ∙ ap (givenAt 16 k) holds,
-            ((w .1, holds), none-below k (λ j l. given-test 16 j (lacksSlots t plan j) (w .2 j l))),
+            rest ∙ w .4 ∙ ap (λ (b : Bool). LacksSlots k applies-when b) holds,
+            ((w .1, holds), none-below k (λ j l. given-test (LacksSlots j) (lacksSlots t plan j) (w .2 j l))),
           ))
-          (in-order-decided (λ k. givenAt 16 k (lacksSlots t plan k)) (t .count))
+          (in-order-decided (endSays t plan) (t .count))
 
     by-slot : (i : ℕ) → i < t .slots → ((j : ℕ) → j < i → slotSays t harvest plan j ≡ gives tt) → Refuses (slotSays t harvest plan i)
         → inOrder (slotSays t harvest plan) (t .slots) ≡ slotSays t harvest plan i → Decided
@@ -217,7 +227,7 @@ module _ (t : Table) (harvest plan : List ℕ) where
         (λ w.
         given-slot i (w .0) l (w .1) before (w .2) (w .3)
         (says-rest
-        ∙ ap (λ (c : Check). c else inOrder (λ k. givenAt 16 k (lacksSlots t plan k)) (t .count)) says
+        ∙ ap (λ (c : Check). c else inOrder (endSays t plan) (t .count)) says
         ∙ else-stays (slotSays t harvest plan i) _ refused
         ∙ w .4))
         (slot-decided i)
@@ -293,17 +303,6 @@ fault-meant (LacksSlots k) = refl
 -- two refusals that the paper writes alike are one
 pub fault-one : (f g : PlanFault) → faultSays f ≡ faultSays g → f ≡ g
 fault-one f g e = sym (fault-meant f) ∙ ap faultMeant e ∙ fault-meant g
-
-pub fault-not-given : (f : PlanFault) → faultSays f ≡ gives tt → ⊥
-fault-not-given f e = go f e
-  where
-    go : (g : PlanFault) → faultSays g ≡ gives tt → ⊥
-    go WrongLength p = subst (λ (c : Check). Refuses c) p tt
-    go (NoJob i) p = subst (λ (c : Check). Refuses c) p tt
-    go (OutsideWindow i) p = subst (λ (c : Check). Refuses c) p tt
-    go (HasAllSlots i) p = subst (λ (c : Check). Refuses c) p tt
-    go (LacksCharge i) p = subst (λ (c : Check). Refuses c) p tt
-    go (LacksSlots k) p = subst (λ (c : Check). Refuses c) p tt
 
 -- ---- exactly when
 

@@ -25,10 +25,12 @@ use Rattle.reader.proofs.Harvesting.{Accepts}
 use Rattle.demand.specs.Demand.{kindNumber, energySupply, demandOf, supplyOf, overloaded}
 use Rattle.demand.specs.declared.Kind.{Kind}
 use Rattle.demand.specs.declared.Kind.the-variants.{Time, Energy}
-use Rattle.judge.specs.Judge.{planSays, planOnTable, planOnSheet, kindOf, claimFault, claimSays, claimOnTable, claimOnSheet, Weights, noWeights, weightsOf, weightsBy, weightsOnTable, weightsOnSheet}
-use Rattle.judge.specs.Promise.{faultSays, planAnswered, sumsSay, claimAnswered, claimWeighed, JudgesTablePlan, JudgesSheetPlan, JudgesTableClaim, JudgesSheetClaim}
-use Rattle.judge.specs.Steps.{findingSays, slotsSay, ClaimJudged}
+use Rattle.judge.specs.Judge.{slotsSay, planSays, planOnTable, planOnSheet, kindOf, claimFault, claimSays, claimOnTable, claimOnSheet, noSums, sumsOf, sumsBy, sumsOnTable, sumsOnSheet}
+use Rattle.judge.specs.Promise.{planAnswered, claimAnswered, sumsTold, JudgesTablePlan, JudgesSheetPlan, JudgesTableClaim, JudgesSheetClaim}
+use Rattle.judge.specs.Steps.{findingSays, ClaimJudged}
+use Rattle.judge.specs.Numbers.{faultSays, noIntervalNumber}
 use Rattle.judge.specs.declared.PlanFault.{PlanFault}
+use Rattle.judge.specs.declared.PlanFault.the-variants.{WrongLength}
 use Rattle.judge.specs.declared.Finding.{Finding}
 use Rattle.judge.specs.declared.Finding.the-variants.{Nothing, Fault}
 use Rattle.judge.specs.declared.JudgedPlan.{JudgedPlan}
@@ -44,13 +46,13 @@ checked-good t harvest o said told = table-accepted-exactly t harvest .0 (says-g
 -- ---- a plan
 
 module _ (t : Table) (harvest plan : List ℕ) where
-  pub says-eleven : (length plan ≡ t .slots → ⊥) → refuses 11 ≡ planSays t harvest plan
+  pub says-eleven : (length plan ≡ t .slots → ⊥) → faultSays WrongLength ≡ planSays t harvest plan
   unfolding planSays
   says-eleven h = rw (ne-eqb _ _ h)
 
   module _ (h : length plan ≡ t .slots) (found : Finding) (said : findingSays found ≡ slotsSay t harvest plan) where
     says-found : findingSays found ≡ planSays t harvest plan
-    unfolding planSays slotsSay
+    unfolding planSays
     says-found = said ∙ rw (eq-eqb _ _ h)
 
     pub says-accepted : found ≡ Nothing → gives tt ≡ planSays t harvest plan
@@ -74,15 +76,15 @@ module _ (t : Table) (harvest plan : List ℕ) where
 
 -- what was weighed
 module _ (kind : Kind) (t : Table) (harvest : List ℕ) (from to : ℕ) (sums : Sums) (demand-is : sums .demand ≡ demandOf kind t from to) where
-  weighed : sums .supply ≡ supplyOf kind t harvest from to → sumsSay sums ≡ weightsOf kind t harvest from to
-  unfolding weightsOf
-  weighed e = rw (demand-is, e)
+  weighed : sums .supply ≡ supplyOf kind t harvest from to → sums ≡ sumsOf kind t harvest from to
+  unfolding sumsOf
+  weighed e = rw (← demand-is, ← e)
 
-  pub weighed-time : kind ≡ Time → sums .supply ≡ to - from → sumsSay sums ≡ weightsOf kind t harvest from to
+  pub weighed-time : kind ≡ Time → sums .supply ≡ to - from → sums ≡ sumsOf kind t harvest from to
   weighed-time told e = weighed (e ∙ ap (λ (k : Kind). supplyOf k t harvest from to) (sym told))
 
   pub weighed-energy : kind ≡ Energy → (level came : ℕ) → sums .supply ≡ level + came → level ≡ t .capacity → came ≡ harvestOf harvest from to
-      → sumsSay sums ≡ weightsOf kind t harvest from to
+      → sums ≡ sumsOf kind t harvest from to
   unfolding energySupply
   weighed-energy told level came e l c = weighed (e ∙ ap₂ _+_ l c ∙ ap (λ (k : Kind). supplyOf k t harvest from to) (sym told))
 
@@ -98,60 +100,60 @@ claim-in-day slots number from to e =
 
 module _ (t : Table) (harvest : List ℕ) (number from to : ℕ) {fault : Bool} (asked : fault ≡ claimFault (t .slots) number from to) where
   pub judged-seventeen : fault ≡ true → ClaimJudged t harvest number from to Claim.NoInterval
-  unfolding claimSays weightsBy
-  judged-seventeen is = record { answer = rw (sym asked ∙ is); weighed = rw (sym asked ∙ is) }
+  unfolding claimSays sumsBy
+  judged-seventeen is = record { answer = rw (sym asked ∙ is); sums = rw (sym asked ∙ is) }
 
-  module _ (is : fault ≡ false) (sums : Sums) (said : sumsSay sums ≡ weightsOf (kindOf number) t harvest from to) where
+  module _ (is : fault ≡ false) (sums : Sums) (said : sums ≡ sumsOf (kindOf number) t harvest from to) where
     demand-is : sums .demand ≡ demandOf (kindOf number) t from to
-    unfolding weightsOf
-    demand-is = ap (λ (w : Weights). w .demand) said
+    unfolding sumsOf
+    demand-is = ap (λ (x : Sums). x .demand) said
 
     supply-is : sums .supply ≡ supplyOf (kindOf number) t harvest from to
-    unfolding weightsOf
-    supply-is = ap (λ (w : Weights). w .supply) said
+    unfolding sumsOf
+    supply-is = ap (λ (x : Sums). x .supply) said
 
     test-is : overloaded (kindOf number) t harvest from to ≡ ltb (sums .supply) (sums .demand)
     unfolding overloaded
     test-is = sym (ap₂ ltb supply-is demand-is)
 
-    weighs : sumsSay sums ≡ weightsBy (gives tt) t harvest number from to
-    unfolding weightsBy
+    weighs : sums ≡ sumsBy (gives tt) t harvest number from to
+    unfolding sumsBy
     weighs = rw (sym asked ∙ is) said
 
     pub judged-accepted : sums .supply < sums .demand → ClaimJudged t harvest number from to (Claim.Accepted sums)
     unfolding claimSays
-    judged-accepted h = record { answer = rw (sym asked ∙ is, test-is ∙ lt-ltb _ _ h); weighed = weighs }
+    judged-accepted h = record { answer = rw (sym asked ∙ is, test-is ∙ lt-ltb _ _ h); sums = weighs }
 
     pub judged-eighteen : sums .demand ≤ sums .supply → ClaimJudged t harvest number from to (Claim.NotOverloaded sums)
     unfolding claimSays
-    judged-eighteen h = record { answer = rw (sym asked ∙ is, test-is ∙ le-ltb _ _ h); weighed = weighs }
+    judged-eighteen h = record { answer = rw (sym asked ∙ is, test-is ∙ le-ltb _ _ h); sums = weighs }
 
 module _ (t : Table) (harvest : List ℕ) (number from to : ℕ) where
   -- a check that refuses weighs nothing; past a check, what is weighed is the claim's
-  refused-weighs : (checked : Check) (why : Refusal) → checked ≡ refusalSays why → noWeights ≡ weightsBy checked t harvest number from to
-  unfolding weightsBy
+  refused-weighs : (checked : Check) (why : Refusal) → checked ≡ refusalSays why → noSums ≡ sumsBy checked t harvest number from to
+  unfolding sumsBy
   refused-weighs checked why e =
-      sym (rw (e, refusal-stays why (17 given-when claimFault (t .slots) number from to)) (refusal-gives-nothing _ why _ noWeights))
+      sym (rw (e, refusal-stays why (noIntervalNumber given-when claimFault (t .slots) number from to)) (refusal-gives-nothing _ why _ noSums))
 
   past-check : (checked : Check) (r : JudgedClaim) → checked ≡ gives tt → ClaimJudged t harvest number from to r
-      → (claimAnswered r ≡ (checked else claimSays t harvest number from to)) × (claimWeighed r ≡ weightsBy checked t harvest number from to)
+      → (claimAnswered r ≡ (checked else claimSays t harvest number from to)) × (sumsTold r ≡ sumsBy checked t harvest number from to)
   past-check checked r e judged = (
     judged .answer ∙ sym (else-goes-on checked (claimSays t harvest number from to) e),
-    judged .weighed ∙ ap (λ (c : Check). weightsBy c t harvest number from to) (sym e),
+    judged .sums ∙ ap (λ (c : Check). sumsBy c t harvest number from to) (sym e),
   )
 
   module _ (o : Outcome) (asked : outcomeSays o ≡ tableSays t harvest) where
     pub table-claim-refused : (why : Refusal) → o ≡ Outcome.Refused why → JudgesTableClaim t harvest number from to (Claim.Refused why)
-    unfolding claimOnTable weightsOnTable
+    unfolding claimOnTable sumsOnTable
     table-claim-refused why told =
         let e : tableSays t harvest ≡ refusalSays why = sym asked ∙ ap outcomeSays told in
-        record { answer = sym (rw e (refusal-stays why _)); weighed = refused-weighs (tableSays t harvest) why e }
+        record { answer = sym (rw e (refusal-stays why _)); sums = refused-weighs (tableSays t harvest) why e }
 
     pub table-claim-judged : (r : JudgedClaim) → o ≡ Outcome.Accepted → ClaimJudged t harvest number from to r → JudgesTableClaim t harvest number from to r
-    unfolding claimOnTable weightsOnTable
+    unfolding claimOnTable sumsOnTable
     table-claim-judged r told judged =
         let both = past-check (tableSays t harvest) r (says-gives o _ told asked) judged in
-        record { answer = both .0; weighed = both .1 }
+        record { answer = both .0; sums = both .1 }
 
 -- ---- on a sheet
 
@@ -164,11 +166,11 @@ module _ (s : List ℕ) (reading : Reading) (read : Reads s reading) where
   sheet-plan-refused plan why told = record { answer = sym (rw (said why told) (refusal-stays why _)) }
 
   pub sheet-claim-refused : (number from to : ℕ) (why : Refusal) → reading .outcome ≡ Outcome.Refused why → JudgesSheetClaim s number from to (Claim.Refused why)
-  unfolding claimOnSheet weightsOnSheet
+  unfolding claimOnSheet sumsOnSheet
   sheet-claim-refused number from to why told =
       record {
         answer = sym (rw (said why told) (refusal-stays why _));
-        weighed = refused-weighs (tableIn s) (harvestIn s) number from to (sheetSays s) why (said why told);
+        sums = refused-weighs (tableIn s) (harvestIn s) number from to (sheetSays s) why (said why told);
       }
 
 module _ (s : List ℕ) (t : Table) (harvest : List ℕ) (a : Accepts s t harvest) where
@@ -183,10 +185,10 @@ module _ (s : List ℕ) (t : Table) (harvest : List ℕ) (a : Accepts s t harves
       }
 
   pub sheet-claim-judged : (number from to : ℕ) (r : JudgedClaim) → ClaimJudged t harvest number from to r → JudgesSheetClaim s number from to r
-  unfolding claimOnSheet weightsOnSheet
+  unfolding claimOnSheet sumsOnSheet
   sheet-claim-judged number from to r judged =
       let own =
       subst (λ (u : Table). ClaimJudged u (harvestIn s) number from to r) (a .table-is)
       (subst (λ (h : List ℕ). ClaimJudged t h number from to r) (a .harvest-is) judged) in
       let both = past-check (tableIn s) (harvestIn s) number from to (sheetSays s) r (a .says) own in
-      record { answer = both .0; weighed = both .1 }
+      record { answer = both .0; sums = both .1 }

@@ -25,9 +25,10 @@ use Rattle.demand.specs.Demand.{kindNumber, demandOf, supplyOf, Overloaded, ove
 use Rattle.demand.specs.declared.Kind.{Kind}
 use Rattle.demand.specs.declared.Kind.the-variants.{Time, Energy}
 use Rattle.judge.specs.Evidence.{AcceptablePlan, AcceptableClaim}
-use Rattle.judge.specs.Judge.{planSays, planOnTable, planOnSheet, kindOf, claimFault, claimSays, claimOnTable, claimOnSheet, Weights}
-use Rattle.judge.specs.Promise.{faultSays, planAnswered, sumsSay, claimAnswered, claimWeighed, JudgesTablePlan, JudgesSheetPlan, JudgesTableClaim, JudgesSheetClaim}
-use Rattle.judge.specs.Stated.{PlanGivenFirst, ClaimStated, NotOverloadedStated}
+use Rattle.judge.specs.Judge.{planSays, planOnTable, planOnSheet, kindOf, claimFault, claimSays, claimOnTable, claimOnSheet, sumsOf, noSums, sumsBy, sumsOnTable, sumsOnSheet}
+use Rattle.judge.specs.Promise.{planAnswered, claimAnswered, sumsTold, JudgesTablePlan, JudgesSheetPlan, JudgesTableClaim, JudgesSheetClaim}
+use Rattle.judge.specs.Numbers.{faultSays, noIntervalNumber, notOverloadedNumber}
+use Rattle.judge.specs.Stated.{PlanGivenFirst, ClaimStated, NotOverloadedStated, SumsAre}
 use Rattle.judge.specs.declared.PlanFault.{PlanFault}
 use Rattle.judge.specs.declared.PlanFault.the-variants.{WrongLength, NoJob, OutsideWindow, HasAllSlots, LacksCharge, LacksSlots}
 use Rattle.judge.specs.declared.JudgedPlan.{JudgedPlan}
@@ -42,13 +43,13 @@ use Rattle.judge.proofs.Promised.{claim-in-day}
 
 -- ---- numbers: 1 to 6 are the sheet's, above 10 the judge's own
 
-number : Check → ℕ
-number (gives x) = 0
-number (refuses n) = n
-number (refusesAt n place) = n
+numberOf : Check → ℕ
+numberOf (gives x) = 0
+numberOf (refuses n) = n
+numberOf (refusesAt n place) = n
 
-refusal-small : (r : Refusal) → (1 ≤ number (refusalSays r)) × (number (refusalSays r) ≤ 6)
-unfolding number
+refusal-small : (r : Refusal) → (1 ≤ numberOf (refusalSays r)) × (numberOf (refusalSays r) ≤ 6)
+unfolding numberOf
 refusal-small Short = (omega arith, omega arith)
 refusal-small Mark = (omega arith, omega arith)
 refusal-small Counts = (omega arith, omega arith)
@@ -56,8 +57,8 @@ refusal-small Layout = (omega arith, omega arith)
 refusal-small (Window k) = (omega arith, omega arith)
 refusal-small (Work k) = (omega arith, omega arith)
 
-fault-large : (f : PlanFault) → 11 ≤ number (faultSays f)
-unfolding number
+fault-large : (f : PlanFault) → 11 ≤ numberOf (faultSays f)
+unfolding numberOf
 fault-large WrongLength = omega arith
 fault-large (NoJob i) = omega arith
 fault-large (OutsideWindow i) = omega arith
@@ -72,15 +73,15 @@ Own c = (r : Refusal) → refusalSays r ≡ c → ⊥
 own-given : Own (gives tt)
 own-given r e = given-no-refusal tt r (sym e)
 
-own-number : (c : Check) → 11 ≤ number c → Own c
-own-number c h r e = let small = refusal-small r in let same = ap number e in omega arith
+own-numberOf : (c : Check) → 11 ≤ numberOf c → Own c
+own-numberOf c h r e = let small = refusal-small r in let same = ap numberOf e in omega arith
 
 own-fault : (f : PlanFault) → Own (faultSays f)
-own-fault f = own-number (faultSays f) (fault-large f)
+own-fault f = own-numberOf (faultSays f) (fault-large f)
 
 own-refuses : (n : ℕ) → 11 ≤ n → Own (refuses n)
-unfolding number
-own-refuses n h = own-number (refuses n) h
+unfolding numberOf
+own-refuses n h = own-numberOf (refuses n) h
 
 -- ---- the check before the judge's own answers: it gives leave exactly when G, and each of 1 to 6 exactly when it is stated and nothing earlier is
 
@@ -220,18 +221,18 @@ module _ (t : Table) (harvest plan : List ℕ) (r : JudgedPlan) (judged : Judges
 
 -- ---- a claim: any two results that a promise allows are equal
 
--- the result that the paper's answer and the weights stand for
-claimMeant : Check → Weights → JudgedClaim
-claimMeant (gives x) w = Claim.Accepted (record { demand = w .demand; supply = w .supply })
-claimMeant (refuses n) w =
+-- the result that the paper's answer and the sums stand for
+claimMeant : Check → Sums → JudgedClaim
+claimMeant (gives x) sums = Claim.Accepted sums
+claimMeant (refuses n) sums =
     cond (eqb n 1) (Claim.Refused Short)
     (cond (eqb n 2) (Claim.Refused Mark)
     (cond (eqb n 3) (Claim.Refused Counts)
     (cond (eqb n 4) (Claim.Refused Layout)
-    (cond (eqb n 17) Claim.NoInterval (Claim.NotOverloaded (record { demand = w .demand; supply = w .supply }))))))
-claimMeant (refusesAt n k) w = cond (eqb n 5) (Claim.Refused (Window k)) (Claim.Refused (Work k))
+    (cond (eqb n noIntervalNumber) Claim.NoInterval (Claim.NotOverloaded sums)))))
+claimMeant (refusesAt n k) sums = cond (eqb n 5) (Claim.Refused (Window k)) (Claim.Refused (Work k))
 
-claim-meant : (r : JudgedClaim) → claimMeant (claimAnswered r) (claimWeighed r) ≡ r
+claim-meant : (r : JudgedClaim) → claimMeant (claimAnswered r) (sumsTold r) ≡ r
 unfolding claimMeant
 claim-meant (Claim.Refused Short) = refl
 claim-meant (Claim.Refused Mark) = refl
@@ -243,21 +244,41 @@ claim-meant Claim.NoInterval = refl
 claim-meant (Claim.NotOverloaded sums) = refl
 claim-meant (Claim.Accepted sums) = refl
 
-claim-one : (r q : JudgedClaim) → claimAnswered r ≡ claimAnswered q → claimWeighed r ≡ claimWeighed q → r ≡ q
+claim-one : (r q : JudgedClaim) → claimAnswered r ≡ claimAnswered q → sumsTold r ≡ sumsTold q → r ≡ q
 claim-one r q e w = sym (claim-meant r) ∙ ap₂ claimMeant e w ∙ claim-meant q
 
+-- a result that tells no sums is told by its number alone
+no-interval : (r : JudgedClaim) → claimAnswered r ≡ refuses noIntervalNumber → r ≡ Claim.NoInterval
+unfolding claimMeant
+no-interval r e = sym (claim-meant r) ∙ ap (λ (c : Check). claimMeant c (sumsTold r)) e
+
+refused-by : (r : JudgedClaim) (why : Refusal) → claimAnswered r ≡ refusalSays why → r ≡ Claim.Refused why
+unfolding claimMeant
+refused-by r why e = sym (claim-meant r) ∙ ap (λ (c : Check). claimMeant c (sumsTold r)) e ∙ go why
+  where
+    go : (q : Refusal) → claimMeant (refusalSays q) (sumsTold r) ≡ Claim.Refused q
+    go Short = refl
+    go Mark = refl
+    go Counts = refl
+    go Layout = refl
+    go (Window k) = refl
+    go (Work k) = refl
+
 pub one-sheet-claim : {s : List ℕ} {number from to : ℕ} {r q : JudgedClaim} → JudgesSheetClaim s number from to r → JudgesSheetClaim s number from to q → r ≡ q
-one-sheet-claim {r = r} {q = q} a b = claim-one r q (a .answer ∙ sym (b .answer)) (a .weighed ∙ sym (b .weighed))
+one-sheet-claim {r = r} {q = q} a b = claim-one r q (a .answer ∙ sym (b .answer)) (a .sums ∙ sym (b .sums))
 
 pub one-table-claim : {t : Table} {harvest : List ℕ} {number from to : ℕ} {r q : JudgedClaim} → JudgesTableClaim t harvest number from to r
     → JudgesTableClaim t harvest number from to q → r ≡ q
-one-table-claim {r = r} {q = q} a b = claim-one r q (a .answer ∙ sym (b .answer)) (a .weighed ∙ sym (b .weighed))
+one-table-claim {r = r} {q = q} a b = claim-one r q (a .answer ∙ sym (b .answer)) (a .sums ∙ sym (b .sums))
 
 -- ---- a claim in words
 
 kind-back : (kind : Kind) → kindOf (kindNumber kind) ≡ kind
 kind-back Time = refl
 kind-back Energy = refl
+
+kind-meant : (number : ℕ) (kind : Kind) → kindNumber kind ≡ number → kindOf number ≡ kind
+kind-meant number kind e = ap kindOf (sym e) ∙ kind-back kind
 
 kind-number : (kind : Kind) → kindNumber kind ≤ 1
 kind-number Time = omega arith
@@ -273,16 +294,16 @@ kind-of-number number h =
     ]
 
 -- 17 does not apply exactly to an interval of the day, claimed in one of the two kinds
-record IsInterval (slots claimed from to : ℕ) : Type 0 where
-  a-kind : claimed ≤ 1
+record IsInterval (slots number from to : ℕ) : Type 0 where
+  a-kind : number ≤ 1
   in-order : from < to
   in-day : to ≤ slots
 
 -- 17 is stated exactly of what is none
-stated-words : (slots claimed from to : ℕ) → (IsInterval slots claimed from to → ⊥) ↔ ClaimStated slots claimed from to
-stated-words slots claimed from to = (
+stated-words : (slots number from to : ℕ) → (IsInterval slots number from to → ⊥) ↔ ClaimStated slots number from to
+stated-words slots number from to = (
   (λ none.
-      elim (decLe claimed 1) [
+      elim (decLe number 1) [
         | no h ↦ inl ((λ e. omega arith), (λ e. omega arith))
         | yes h ↦
             elim (decLt from to) [
@@ -301,10 +322,10 @@ stated-words slots claimed from to = (
       ⊎-elim (λ w. let zero-is = w .0 in let one-is = w .1 in omega arith) (⊎-elim (λ h. omega arith) (λ h. omega arith)) stated),
 )
 
-is-interval : (slots claimed from to : ℕ) → (ClaimStated slots claimed from to → ⊥) ↔ IsInterval slots claimed from to
-is-interval slots claimed from to = (
+is-interval : (slots number from to : ℕ) → (ClaimStated slots number from to → ⊥) ↔ IsInterval slots number from to
+is-interval slots number from to = (
   (λ none.
-      elim (decLe claimed 1) [
+      elim (decLe number 1) [
         | no h ↦ absurd (none (inl ((λ e. omega arith), (λ e. omega arith))))
         | yes h ↦
             elim (decLt from to) [
@@ -316,20 +337,20 @@ is-interval slots claimed from to = (
                   ]
             ]
       ]),
-  (λ i stated. stated-words slots claimed from to .1 stated i),
+  (λ i stated. stated-words slots number from to .1 stated i),
 )
 
-interval-words : (slots claimed from to : ℕ) → (claimFault slots claimed from to ≡ false) ↔ IsInterval slots claimed from to
+interval-words : (slots number from to : ℕ) → (claimFault slots number from to ≡ false) ↔ IsInterval slots number from to
 unfolding claimFault
-interval-words slots claimed from to = (
+interval-words slots number from to = (
   (λ e.
-      let days = claim-in-day slots claimed from to e in
-      let kind = not (eqb claimed 0 || eqb claimed 1) in
+      let days = claim-in-day slots number from to e in
+      let kind = not (eqb number 0 || eqb number 1) in
       let is = not-false _ (or-left kind (not (ltb from to)) (or-left (kind || not (ltb from to)) (ltb slots to) e)) in
-      record { a-kind = small claimed is; in-order = days .0; in-day = days .1 }),
+      record { a-kind = small number is; in-order = days .0; in-day = days .1 }),
   (λ i.
       or-false _ _
-      (or-false _ _ (ap not (is-kind claimed (i .a-kind))) (ap not (lt-ltb from to (i .in-order))))
+      (or-false _ _ (ap not (is-kind number (i .a-kind))) (ap not (lt-ltb from to (i .in-order))))
       (le-ltb slots to (i .in-day))),
 )
   where
@@ -340,133 +361,215 @@ interval-words slots claimed from to = (
           | no h ↦ absurd (never-both e (no-kind n (omega arith)))
         ]
 
-module _ (t : Table) (harvest : List ℕ) (claimed from to : ℕ) where
+module _ (t : Table) (harvest : List ℕ) (number from to : ℕ) where
   -- accepted: an interval of the day that is overloaded in its kind
-  claim-accepted : (claimSays t harvest claimed from to ≡ gives tt) ↔ AcceptableClaim t harvest claimed from to
+  claim-accepted : (claimSays t harvest number from to ≡ gives tt) ↔ AcceptableClaim t harvest number from to
   unfolding claimSays overloaded
   claim-accepted = (
     (λ e.
         let both = two _ _ e in
-        let i = interval-words (t .slots) claimed from to .0 (both .0) in
+        let i = interval-words (t .slots) number from to .0 (both .0) in
         record {
-          kind = kindOf claimed;
-          kind-is = kind-of-number claimed (i .a-kind);
+          kind = kindOf number;
+          kind-is = kind-of-number number (i .a-kind);
           in-order = i .in-order;
           in-day = i .in-day;
           overloaded = ltb-true _ _ (not-false _ (both .1));
         }),
     (λ a.
         let number-is = a .kind-is in
-        let kind-is : kindOf claimed ≡ a .kind = ap kindOf (sym number-is) ∙ kind-back (a .kind) in
+        let kind-is : kindOf number ≡ a .kind = kind-meant number (a .kind) number-is in
         let most = kind-number (a .kind) in
-        let clear = interval-words (t .slots) claimed from to .1 (record { a-kind = omega arith; in-order = a .in-order; in-day = a .in-day }) in
+        let clear = interval-words (t .slots) number from to .1 (record { a-kind = omega arith; in-order = a .in-order; in-day = a .in-day }) in
         rw (clear, kind-is, lt-ltb _ _ (a .overloaded))),
   )
     where
-      two : (a b : Bool) → (17 given-when a else 18 given-when b) ≡ gives tt → (a ≡ false) × (b ≡ false)
+      two : (a b : Bool) → (noIntervalNumber given-when a else notOverloadedNumber given-when b) ≡ gives tt → (a ≡ false) × (b ≡ false)
       two true b e = absurd (subst (λ (c : Check). Refuses c) e tt)
       two false true e = absurd (subst (λ (c : Check). Refuses c) e tt)
       two false false e = (refl, refl)
 
-  claim-seventeen : (claimSays t harvest claimed from to ≡ refuses 17) ↔ ClaimStated (t .slots) claimed from to
+  claim-seventeen : (claimSays t harvest number from to ≡ refuses noIntervalNumber) ↔ ClaimStated (t .slots) number from to
   unfolding claimSays
-  claim-seventeen = Iff·trans none (stated-words (t .slots) claimed from to)
+  claim-seventeen = Iff·trans none (stated-words (t .slots) number from to)
     where
-      first : (a b : Bool) → (17 given-when a else 18 given-when b) ≡ refuses 17 → a ≡ true
+      first : (a b : Bool) → (noIntervalNumber given-when a else notOverloadedNumber given-when b) ≡ refuses noIntervalNumber → a ≡ true
       first true b e = refl
       first false true e = let n : _≡_ {A = ℕ} 18 17 = cc in absurd (omega arith)
       first false false e = absurd (subst (λ (c : Check). Refuses c) (sym e) tt)
 
-      none : (claimSays t harvest claimed from to ≡ refuses 17) ↔ (IsInterval (t .slots) claimed from to → ⊥)
+      none : (claimSays t harvest number from to ≡ refuses noIntervalNumber) ↔ (IsInterval (t .slots) number from to → ⊥)
       none = (
-        (λ e i. never-both (first (claimFault (t .slots) claimed from to) (not (overloaded (kindOf claimed) t harvest from to)) e) (interval-words (t .slots) claimed from to .1 i)),
-        (λ h. ⊎-elim (λ is. rw is) (λ is. absurd (h (interval-words (t .slots) claimed from to .0 is))) (either (claimFault (t .slots) claimed from to))),
+        (λ e i. never-both (first (claimFault (t .slots) number from to) (not (overloaded (kindOf number) t harvest from to)) e) (interval-words (t .slots) number from to .1 i)),
+        (λ h. ⊎-elim (λ is. rw is) (λ is. absurd (h (interval-words (t .slots) number from to .0 is))) (either (claimFault (t .slots) number from to))),
       )
 
-  claim-eighteen : (claimSays t harvest claimed from to ≡ refuses 18) ↔ ((ClaimStated (t .slots) claimed from to → ⊥) × NotOverloadedStated t harvest claimed from to)
+  claim-eighteen : (claimSays t harvest number from to ≡ refuses notOverloadedNumber) ↔ ((ClaimStated (t .slots) number from to → ⊥) × NotOverloadedStated t harvest number from to)
   unfolding claimSays overloaded
   claim-eighteen = (
     (λ e.
         let both = second _ _ e in
-        let i = interval-words (t .slots) claimed from to .0 (both .0) in
-        (is-interval (t .slots) claimed from to .1 i, (kindOf claimed, kind-of-number claimed (i .a-kind), ltb-false _ _ (not-true _ (both .1))))),
+        let i = interval-words (t .slots) number from to .0 (both .0) in
+        (is-interval (t .slots) number from to .1 i, record { kind = kindOf number; kind-is = kind-of-number number (i .a-kind); within-supply = ltb-false _ _ (not-true _ (both .1)) })),
     (λ w.
-        let kind-is : kindOf claimed ≡ w .1 .0 = ap kindOf (sym (w .1 .1)) ∙ kind-back (w .1 .0) in
-        rw (interval-words (t .slots) claimed from to .1 (is-interval (t .slots) claimed from to .0 (w .0)), kind-is, le-ltb _ _ (w .1 .2))),
+        let kind-is : kindOf number ≡ w .1 .kind = kind-meant number (w .1 .kind) (w .1 .kind-is) in
+        rw (interval-words (t .slots) number from to .1 (is-interval (t .slots) number from to .0 (w .0)), kind-is, le-ltb _ _ (w .1 .within-supply))),
   )
     where
-      second : (a b : Bool) → (17 given-when a else 18 given-when b) ≡ refuses 18 → (a ≡ false) × (b ≡ true)
+      second : (a b : Bool) → (noIntervalNumber given-when a else notOverloadedNumber given-when b) ≡ refuses notOverloadedNumber → (a ≡ false) × (b ≡ true)
       second true b e = let n : _≡_ {A = ℕ} 17 18 = cc in absurd (omega arith)
       second false true e = (refl, refl)
       second false false e = absurd (subst (λ (c : Check). Refuses c) (sym e) tt)
 
-  claim-own : (q : Refusal) → claimSays t harvest claimed from to ≡ refusalSays q → ⊥
+  claim-own : (q : Refusal) → claimSays t harvest number from to ≡ refusalSays q → ⊥
   unfolding claimSays
-  claim-own q e = go (claimFault (t .slots) claimed from to) (not (overloaded (kindOf claimed) t harvest from to)) e
+  claim-own q e = go (claimFault (t .slots) number from to) (not (overloaded (kindOf number) t harvest from to)) e
     where
-      go : (a b : Bool) → (17 given-when a else 18 given-when b) ≡ refusalSays q → ⊥
-      go true b p = own-refuses 17 (omega arith) q (sym p)
-      go false true p = own-refuses 18 (omega arith) q (sym p)
+      go : (a b : Bool) → (noIntervalNumber given-when a else notOverloadedNumber given-when b) ≡ refusalSays q → ⊥
+      go true b p = own-refuses noIntervalNumber (omega arith) q (sym p)
+      go false true p = own-refuses notOverloadedNumber (omega arith) q (sym p)
       go false false p = own-given q (sym p)
 
 -- on a sheet or a table that was checked first
-module _ {G : Type 0} {states : Refusal → Type 0} (first : FirstChecked G states) (t : Table) (harvest : List ℕ) (claimed from to : ℕ) (r : JudgedClaim)
-    (judged : claimAnswered r ≡ (first .says else claimSays t harvest claimed from to)) where
-  as-said : (c : Check) → (claimAnswered r ≡ c) ↔ ((first .says else claimSays t harvest claimed from to) ≡ c)
+module _ {G : Type 0} {states : Refusal → Type 0} (first : FirstChecked G states) (t : Table) (harvest : List ℕ) (number from to : ℕ) (r : JudgedClaim)
+    (judged : claimAnswered r ≡ (first .says else claimSays t harvest number from to)) (told : sumsTold r ≡ sumsBy (first .says) t harvest number from to) where
+  as-said : (c : Check) → (claimAnswered r ≡ c) ↔ ((first .says else claimSays t harvest number from to) ≡ c)
   as-said c = ((λ p. sym judged ∙ p), (λ p. judged ∙ p))
 
-  is-accepted : (claimAnswered r ≡ gives tt) ↔ (G × AcceptableClaim t harvest claimed from to)
-  is-accepted = Iff·trans (as-said (gives tt)) (own-exactly first (claimSays t harvest claimed from to) (gives tt) own-given (claim-accepted t harvest claimed from to))
+  says-accepted : (claimAnswered r ≡ gives tt) ↔ (G × AcceptableClaim t harvest number from to)
+  says-accepted = Iff·trans (as-said (gives tt)) (own-exactly first (claimSays t harvest number from to) (gives tt) own-given (claim-accepted t harvest number from to))
 
-  is-seventeen : (claimAnswered r ≡ refuses 17) ↔ (G × ClaimStated (t .slots) claimed from to)
-  is-seventeen =
-      Iff·trans (as-said (refuses 17))
-      (own-exactly first (claimSays t harvest claimed from to) (refuses 17) (own-refuses 17 (omega arith)) (claim-seventeen t harvest claimed from to))
+  says-seventeen : (claimAnswered r ≡ refuses noIntervalNumber) ↔ (G × ClaimStated (t .slots) number from to)
+  says-seventeen =
+      Iff·trans (as-said (refuses noIntervalNumber))
+      (own-exactly first (claimSays t harvest number from to) (refuses noIntervalNumber) (own-refuses noIntervalNumber (omega arith)) (claim-seventeen t harvest number from to))
 
-  is-eighteen : (claimAnswered r ≡ refuses 18) ↔ (G × ((ClaimStated (t .slots) claimed from to → ⊥) × NotOverloadedStated t harvest claimed from to))
-  is-eighteen =
-      Iff·trans (as-said (refuses 18))
-      (own-exactly first (claimSays t harvest claimed from to) (refuses 18) (own-refuses 18 (omega arith)) (claim-eighteen t harvest claimed from to))
+  says-eighteen : (claimAnswered r ≡ refuses notOverloadedNumber) ↔ (G × ((ClaimStated (t .slots) number from to → ⊥) × NotOverloadedStated t harvest number from to))
+  says-eighteen =
+      Iff·trans (as-said (refuses notOverloadedNumber))
+      (own-exactly first (claimSays t harvest number from to) (refuses notOverloadedNumber) (own-refuses notOverloadedNumber (omega arith)) (claim-eighteen t harvest number from to))
 
-  is-refused : (why : Refusal) → (claimAnswered r ≡ refusalSays why) ↔ GivenFirst states why
-  is-refused why = Iff·trans (as-said (refusalSays why)) (first .refused (claimSays t harvest claimed from to) why (claim-own t harvest claimed from to))
+  says-refused : (why : Refusal) → (claimAnswered r ≡ refusalSays why) ↔ GivenFirst states why
+  says-refused why = Iff·trans (as-said (refusalSays why)) (first .refused (claimSays t harvest number from to) why (claim-own t harvest number from to))
 
-module _ (s : List ℕ) (claimed from to : ℕ) (r : JudgedClaim) (judged : JudgesSheetClaim s claimed from to r) where
-  -- a claim is accepted exactly when the sheet is well formed and its interval's demand exceeds its supply
-  pub sheet-claim-accepted-exactly : (claimAnswered r ≡ gives tt) ↔ (WellFormed s × AcceptableClaim (tableIn s) (harvestIn s) claimed from to)
-  unfolding claimOnSheet sheet-first
-  sheet-claim-accepted-exactly = is-accepted (sheet-first s) (tableIn s) (harvestIn s) claimed from to r (judged .answer)
+  -- the sums that are told: of an interval of the day its demand and supply, and otherwise none
+  module _ (good : G) (i : IsInterval (t .slots) number from to) where
+    told-of-interval : sumsTold r ≡ sumsOf (kindOf number) t harvest from to
+    unfolding sumsBy
+    told-of-interval = told ∙ rw (first .good .1 good, interval-words (t .slots) number from to .1 i)
+
+    told-are : (sums : Sums) → sumsTold r ≡ sums → SumsAre t harvest number from to sums
+    unfolding sumsOf
+    told-are sums e =
+        let same = sym e ∙ told-of-interval in
+        record {
+          kind = kindOf number;
+          kind-is = kind-of-number number (i .a-kind);
+          demand-is = ap (λ (x : Sums). x .demand) same;
+          supply-is = ap (λ (x : Sums). x .supply) same;
+        }
+
+    are-told : (sums : Sums) → SumsAre t harvest number from to sums → sumsTold r ≡ sums
+    unfolding sumsOf
+    are-told sums w =
+        told-of-interval ∙ rw (kind-meant number (w .kind) (w .kind-is), ← w .demand-is, ← w .supply-is)
+
+  accepted-interval : AcceptableClaim t harvest number from to → IsInterval (t .slots) number from to
+  accepted-interval a =
+      let number-is = a .kind-is in
+      let most = kind-number (a .kind) in
+      record { a-kind = omega arith; in-order = a .in-order; in-day = a .in-day }
+
+  is-accepted : (sums : Sums) → (r ≡ Claim.Accepted sums) ↔ (G × AcceptableClaim t harvest number from to × SumsAre t harvest number from to sums)
+  is-accepted sums = (
+    (λ e.
+        let w = says-accepted .0 (ap claimAnswered e) in
+        (w .0, w .1, told-are (w .0) (accepted-interval (w .1)) sums (ap sumsTold e))),
+    (λ w. claim-one r (Claim.Accepted sums) (says-accepted .1 (w .0, w .1)) (are-told (w .0) (accepted-interval (w .1)) sums (w .2))),
+  )
+
+  is-eighteen : (sums : Sums) → (r ≡ Claim.NotOverloaded sums)
+      ↔ (G × (ClaimStated (t .slots) number from to → ⊥) × NotOverloadedStated t harvest number from to × SumsAre t harvest number from to sums)
+  is-eighteen sums = (
+    (λ e.
+        let w = says-eighteen .0 (ap claimAnswered e) in
+        (w .0, w .1 .0, w .1 .1, told-are (w .0) (is-interval (t .slots) number from to .0 (w .1 .0)) sums (ap sumsTold e))),
+    (λ w.
+        claim-one r (Claim.NotOverloaded sums) (says-eighteen .1 (w .0, (w .1, w .2)))
+        (are-told (w .0) (is-interval (t .slots) number from to .0 (w .1)) sums (w .3))),
+  )
+
+  -- where nothing is weighed, the result is told by its number alone
+  is-seventeen : (r ≡ Claim.NoInterval) ↔ (G × ClaimStated (t .slots) number from to)
+  is-seventeen = Iff·trans ((λ e. ap claimAnswered e), no-interval r) says-seventeen
+
+  is-refused : (why : Refusal) → (r ≡ Claim.Refused why) ↔ GivenFirst states why
+  is-refused why = Iff·trans ((λ e. ap claimAnswered e), refused-by r why) (says-refused why)
+
+module _ (s : List ℕ) (number from to : ℕ) (r : JudgedClaim) (judged : JudgesSheetClaim s number from to r) where
+  -- a claim is accepted exactly when the sheet is well formed and its interval's demand exceeds its supply, and these are the sums that are told
+  pub sheet-claim-accepted-exactly : (sums : Sums) → (r ≡ Claim.Accepted sums)
+      ↔ (WellFormed s × AcceptableClaim (tableIn s) (harvestIn s) number from to × SumsAre (tableIn s) (harvestIn s) number from to sums)
+  unfolding claimOnSheet sumsOnSheet sheet-first
+  sheet-claim-accepted-exactly = is-accepted (sheet-first s) (tableIn s) (harvestIn s) number from to r (judged .answer) (judged .sums)
 
   -- 17 and 18 are given exactly when each is stated and nothing earlier applies
-  pub sheet-claim-seventeen-exactly : (claimAnswered r ≡ refuses 17) ↔ (WellFormed s × ClaimStated (tableIn s .slots) claimed from to)
-  unfolding claimOnSheet sheet-first
-  sheet-claim-seventeen-exactly = is-seventeen (sheet-first s) (tableIn s) (harvestIn s) claimed from to r (judged .answer)
+  pub sheet-claim-seventeen-exactly : (r ≡ Claim.NoInterval) ↔ (WellFormed s × ClaimStated (tableIn s .slots) number from to)
+  unfolding claimOnSheet sumsOnSheet sheet-first
+  sheet-claim-seventeen-exactly = is-seventeen (sheet-first s) (tableIn s) (harvestIn s) number from to r (judged .answer) (judged .sums)
 
-  pub sheet-claim-eighteen-exactly : (claimAnswered r ≡ refuses 18)
-      ↔ (WellFormed s × ((ClaimStated (tableIn s .slots) claimed from to → ⊥) × NotOverloadedStated (tableIn s) (harvestIn s) claimed from to))
-  unfolding claimOnSheet sheet-first
-  sheet-claim-eighteen-exactly = is-eighteen (sheet-first s) (tableIn s) (harvestIn s) claimed from to r (judged .answer)
+  pub sheet-claim-eighteen-exactly : (sums : Sums) → (r ≡ Claim.NotOverloaded sums)
+      ↔ (WellFormed s
+      × (ClaimStated (tableIn s .slots) number from to → ⊥)
+      × NotOverloadedStated (tableIn s) (harvestIn s) number from to
+      × SumsAre (tableIn s) (harvestIn s) number from to sums)
+  unfolding claimOnSheet sumsOnSheet sheet-first
+  sheet-claim-eighteen-exactly = is-eighteen (sheet-first s) (tableIn s) (harvestIn s) number from to r (judged .answer) (judged .sums)
 
   -- 1 to 6 are given exactly as every call gives them
-  pub claimed-sheet-refused-exactly : (why : Refusal) → (claimAnswered r ≡ refusalSays why) ↔ GivenFirst (sheetStates s) why
-  unfolding claimOnSheet sheet-first
-  claimed-sheet-refused-exactly = is-refused (sheet-first s) (tableIn s) (harvestIn s) claimed from to r (judged .answer)
+  pub claimed-sheet-refused-exactly : (why : Refusal) → (r ≡ Claim.Refused why) ↔ GivenFirst (sheetStates s) why
+  unfolding claimOnSheet sumsOnSheet sheet-first
+  claimed-sheet-refused-exactly = is-refused (sheet-first s) (tableIn s) (harvestIn s) number from to r (judged .answer) (judged .sums)
 
 -- the same on a table with its harvest
-module _ (t : Table) (harvest : List ℕ) (claimed from to : ℕ) (r : JudgedClaim) (judged : JudgesTableClaim t harvest claimed from to r) where
-  pub table-claim-accepted-exactly : (claimAnswered r ≡ gives tt) ↔ (GoodTable t harvest × AcceptableClaim t harvest claimed from to)
-  unfolding claimOnTable table-first
-  table-claim-accepted-exactly = is-accepted (table-first t harvest) t harvest claimed from to r (judged .answer)
+module _ (t : Table) (harvest : List ℕ) (number from to : ℕ) (r : JudgedClaim) (judged : JudgesTableClaim t harvest number from to r) where
+  pub table-claim-accepted-exactly : (sums : Sums) → (r ≡ Claim.Accepted sums)
+      ↔ (GoodTable t harvest × AcceptableClaim t harvest number from to × SumsAre t harvest number from to sums)
+  unfolding claimOnTable sumsOnTable table-first
+  table-claim-accepted-exactly = is-accepted (table-first t harvest) t harvest number from to r (judged .answer) (judged .sums)
 
-  pub table-claim-seventeen-exactly : (claimAnswered r ≡ refuses 17) ↔ (GoodTable t harvest × ClaimStated (t .slots) claimed from to)
-  unfolding claimOnTable table-first
-  table-claim-seventeen-exactly = is-seventeen (table-first t harvest) t harvest claimed from to r (judged .answer)
+  pub table-claim-seventeen-exactly : (r ≡ Claim.NoInterval) ↔ (GoodTable t harvest × ClaimStated (t .slots) number from to)
+  unfolding claimOnTable sumsOnTable table-first
+  table-claim-seventeen-exactly = is-seventeen (table-first t harvest) t harvest number from to r (judged .answer) (judged .sums)
 
-  pub table-claim-eighteen-exactly : (claimAnswered r ≡ refuses 18)
-      ↔ (GoodTable t harvest × ((ClaimStated (t .slots) claimed from to → ⊥) × NotOverloadedStated t harvest claimed from to))
-  unfolding claimOnTable table-first
-  table-claim-eighteen-exactly = is-eighteen (table-first t harvest) t harvest claimed from to r (judged .answer)
+  pub table-claim-eighteen-exactly : (sums : Sums) → (r ≡ Claim.NotOverloaded sums)
+      ↔ (GoodTable t harvest
+      × (ClaimStated (t .slots) number from to → ⊥)
+      × NotOverloadedStated t harvest number from to
+      × SumsAre t harvest number from to sums)
+  unfolding claimOnTable sumsOnTable table-first
+  table-claim-eighteen-exactly = is-eighteen (table-first t harvest) t harvest number from to r (judged .answer) (judged .sums)
 
-  pub claimed-table-refused-exactly : (why : Refusal) → (claimAnswered r ≡ refusalSays why) ↔ GivenFirst (tableStates t harvest) why
-  unfolding claimOnTable table-first
-  claimed-table-refused-exactly = is-refused (table-first t harvest) t harvest claimed from to r (judged .answer)
+  pub claimed-table-refused-exactly : (why : Refusal) → (r ≡ Claim.Refused why) ↔ GivenFirst (tableStates t harvest) why
+  unfolding claimOnTable sumsOnTable table-first
+  claimed-table-refused-exactly = is-refused (table-first t harvest) t harvest number from to r (judged .answer) (judged .sums)
+
+-- ---- what is acceptable, the judge accepts, and gives no other answer
+
+pub acceptable-is-accepted : (s plan : List ℕ) → WellFormed s → AcceptablePlan (tableIn s) (harvestIn s) plan
+    → JudgesSheetPlan s plan Plan.Accepted × ((r : JudgedPlan) → JudgesSheetPlan s plan r → r ≡ Plan.Accepted)
+unfolding planOnSheet sheet-first
+acceptable-is-accepted s plan good ok =
+    let says : planOnSheet s plan ≡ gives tt =
+    own-exactly (sheet-first s) (planSays (tableIn s) (harvestIn s) plan) (gives tt) own-given (acceptable-exactly (tableIn s) (harvestIn s) plan) .1 (good, ok) in
+    let is : JudgesSheetPlan s plan Plan.Accepted = record { answer = sym says } in
+    (is, (λ r judged. one-sheet-judgement judged is))
+
+pub overloaded-is-accepted : (s : List ℕ) (number from to : ℕ) → WellFormed s → AcceptableClaim (tableIn s) (harvestIn s) number from to
+    → (sums : Sums) × JudgesSheetClaim s number from to (Claim.Accepted sums) × ((r : JudgedClaim) → JudgesSheetClaim s number from to r → r ≡ Claim.Accepted sums)
+unfolding claimOnSheet sheet-first
+overloaded-is-accepted s number from to good ok =
+    let says : claimOnSheet s number from to ≡ gives tt =
+    own-exactly (sheet-first s) (claimSays (tableIn s) (harvestIn s) number from to) (gives tt) own-given (claim-accepted (tableIn s) (harvestIn s) number from to) .1 (good, ok) in
+    let is : JudgesSheetClaim s number from to (Claim.Accepted (sumsOnSheet s number from to)) = record { answer = sym says; sums = refl } in
+    (sumsOnSheet s number from to, is, (λ r judged. one-sheet-claim judged is))

@@ -13,6 +13,7 @@ use Rattle.demand.specs.declared.Kind.{Kind}
 use Rattle.demand.specs.declared.Kind.the-variants.{Time, Energy}
 use Rattle.judge.specs.Evidence.{byteOf, slotsGot, levelAt}
 use Rattle.judge.specs.declared.PlanFault.{PlanFault}
+use Rattle.judge.specs.declared.Sums.{Sums}
 use Rattle.judge.specs.declared.PlanFault.the-variants.{WrongLength, NoJob, OutsideWindow, HasAllSlots, LacksCharge, LacksSlots}
 
 -- slot i of the day is job k's
@@ -50,6 +51,14 @@ ClaimStated slots number from to =
     ((number ≡ kindNumber Time → ⊥) × (number ≡ kindNumber Energy → ⊥)) ⊎ ((to ≤ from) ⊎ (slots < to))
 
 -- 18: claimed interval is not overloaded in the claimed kind
-abbrev pub NotOverloadedStated : Table → List ℕ → (number from to : ℕ) → Type 0
-NotOverloadedStated t harvest number from to =
-    (kind : Kind) × (kindNumber kind ≡ number) × (demandOf kind t from to ≤ supplyOf kind t harvest from to)
+pub record NotOverloadedStated (t : Table) (harvest : List ℕ) (number from to : ℕ) : Type 0 where
+  pub kind : Kind
+  pub kind-is : kindNumber kind ≡ number
+  pub within-supply : demandOf kind t from to ≤ supplyOf kind t harvest from to
+
+-- the sums that are told of a claim are its interval's demand and supply, in the claimed kind
+pub record SumsAre (t : Table) (harvest : List ℕ) (number from to : ℕ) (sums : Sums) : Type 0 where
+  pub kind : Kind
+  pub kind-is : kindNumber kind ≡ number
+  pub demand-is : sums .demand ≡ demandOf kind t from to
+  pub supply-is : sums .supply ≡ supplyOf kind t harvest from to

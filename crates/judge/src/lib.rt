@@ -1,5 +1,6 @@
-// The judge of evidence: a plan or an interval, from anyone, is accepted exactly when it is good. It
-// knows the sheet and what demand is, and nothing of the run or the planner.
+// The judge of evidence, a plan or an interval, whoever brings it: a plan is accepted exactly when the
+// day can be run by it, an interval exactly when its demand exceeds its supply. The judge knows the
+// sheet and what demand is, and nothing of the run or the planner.
 use demand::Kind;
 use sheet::Job;
 use sheet::Outcome;
@@ -15,9 +16,9 @@ ghost use Rattle.sheet.specs.Sums.{harvestOf, mostHarvest};
 ghost use Rattle.sheet.specs.Table.{mostJobs, mostSlots};
 ghost use Rattle.sheet.specs.WellFormed.{GoodTable};
 ghost use Rattle.demand.specs.Demand.{demandOf};
-ghost use Rattle.judge.specs.Judge.{jobSays, planSays, claimFault, kindOf, weightsOf};
-ghost use Rattle.judge.specs.Promise.{planAnswered, sumsSay, JudgesTablePlan, JudgesSheetPlan, JudgesTableClaim, JudgesSheetClaim};
-ghost use Rattle.judge.specs.Steps.{findingSays, endsSay, slotsSay, shareOf, ClaimJudged};
+ghost use Rattle.judge.specs.Judge.{jobSays, slotsSay, planSays, claimFault, kindOf, sumsOf};
+ghost use Rattle.judge.specs.Promise.{planAnswered, JudgesTablePlan, JudgesSheetPlan, JudgesTableClaim, JudgesSheetClaim};
+ghost use Rattle.judge.specs.Steps.{findingSays, endsBy, shareOf, ClaimJudged};
 
 // Why a plan is refused, with the slot, and for 16 the job, that document 01 names.
 pub enum PlanFault {
@@ -42,7 +43,7 @@ pub enum JudgedPlan {
     // The plan is refused: 11 to 16.
     Faulty(PlanFault),
     // Every job gets its slots inside its window, no more and no fewer, every slot is idle or names
-    // a job, and no busy slot lacks charge.
+    // a job, and no busy slot lacks charge, the reservoir starting full.
     Accepted,
 }
 
@@ -101,7 +102,7 @@ fn judge_job(j: Job, slot: usize, got: u16, charge: u32) -> Finding
 // 16: the lowest job that got fewer slots than it wants. The table has at most 64 jobs.
 fn judge_ends(t: Table, got: &[u16; sheet::MOST_JOBS]) -> Finding
     requires { ⌜ t .count ≤ mostJobs ⌝ }
-    ensures { λ r. ⌜ findingSays r ≡ endsSay t (now (got .entry)) ⌝ }
+    ensures { λ r. ⌜ findingSays r ≡ endsBy t (now (got .entry)) ⌝ }
 {
     let count = t.count;
     let mut k = 0;
@@ -161,7 +162,7 @@ fn judge_plan(t: Table, harvest: &[u8], plan: &[u8]) -> JudgedPlan
 
 // Judges a plan, one byte a slot, the job's number or 255 for idle, against a table and its harvest.
 // It takes any table, harvest and plan; it refuses 3, 4, 5 and 6 as every call does, then the plan by
-// 11 to 16, and otherwise accepts it.
+// 11 to 16, and otherwise accepts it. It writes nothing.
 pub fn plan_on_table(t: Table, harvest: &[u8], plan: &[u8]) -> JudgedPlan
     ensures { λ r. ⌜ JudgesTablePlan t (now (harvest .entry)) (now (plan .entry)) r ⌝ }
 {
@@ -260,7 +261,7 @@ fn harvest_of(harvest: &[u8], from: usize, to: usize) -> u32
 // checked.
 fn weigh(t: Table, harvest: &[u8], kind: Kind, from: u16, to: u16) -> Sums
     requires { ⌜ GoodTable t (now harvest) × (from < to) × (to ≤ t .slots) ⌝ }
-    ensures { λ r. ⌜ sumsSay r ≡ weightsOf kind t (now (harvest .entry)) from to ⌝ }
+    ensures { λ r. ⌜ r ≡ sumsOf kind t (now (harvest .entry)) from to ⌝ }
 {
     let demand = demand_of(t, kind, from, to);
     let supply = match kind {
@@ -288,7 +289,8 @@ fn judge_claim(t: Table, harvest: &[u8], kind: u64, start: u64, end: u64) -> Jud
 
 // Judges a claim, that the slots from `start` up to, not including, `end` are overloaded in a kind, 0
 // for time and 1 for energy, against a table and its harvest. Any three numbers are taken; it refuses
-// 3, 4, 5 and 6 as every call does, then 17 and 18, and otherwise accepts the claim.
+// 3, 4, 5 and 6 as every call does, then 17 and 18, and otherwise accepts the claim. With 18 and with
+// an accepted claim it tells the interval's demand and supply. It writes nothing.
 pub fn claim_on_table(t: Table, harvest: &[u8], kind: u64, start: u64, end: u64) -> JudgedClaim
     ensures { λ r. ⌜ JudgesTableClaim t (now (harvest .entry)) kind start end r ⌝ }
 {

@@ -21,7 +21,7 @@ use Rattle.slot_run.specs.Rules.{ruleFor, decided, nextState, firstState, state
 use Rattle.planner.specs.Plan.{verdictOf, planSheet, sheetPlanned}
 use Rattle.planner.specs.Promise.{PlansSheet}
 use Rattle.planner.specs.declared.Planned.{Planned}
-use Rattle.planner.specs.declared.Planned.the-variants.{Undecided}
+use Rattle.planner.specs.declared.Planned.the-variants.{Met, Undecided}
 use Rattle.theorems.specs.Even.{EvenDay, Decided}
 use Rattle.theorems.proofs.Days.{sheet-1, sheet-5, before}
 use Rattle.theorems.proofs.Theorems.{even-days-are-decided, undecided-is-not-decided}
@@ -52,9 +52,19 @@ fits-1 : length (before 4) ≡ slotsIn sheet-1
 unfolding joined recordBytes trailerBytes sheetBytes
 fits-1 = refl
 
--- the hypotheses of `even-days-are-decided` hold of day 1, so it speaks of that day
-pub day-1-is-decided : (r : Planned) (after : List ℕ) → PlansSheet sheet-1 (before 4) r after → Decided sheet-1 (before 4) r after
-day-1-is-decided = even-days-are-decided sheet-1 (before 4) well-formed-1 even-1 fits-1
+planned-1 : PlansSheet sheet-1 (before 4) Met (255 ∷ 1 ∷ 0 ∷ 255 ∷ [])
+unfolding joined filled inOrder inTurn total some harvestOf countsFault windowFault workFault recordBytes trailerBytes sheetBytes tableIn harvestIn markFault layoutFault sheetFaults sheetSays timeDemand energyDemand energySupply overloaded isRelease isDeadline foundAt latestStart smallestEnd ready earliest chosen unfinished least pending slackTime coming slackEnergy ruleFor decided nextState firstState stateAt planOf verdictOf planSheet sheetPlanned
+planned-1 = record { answer = refl; buffer = refl }
+
+-- every hypothesis of `even-days-are-decided` holds of day 1, and so does what it concludes
+pub day-1-meets-the-hypotheses : WellFormed sheet-1
+    × EvenDay (tableIn sheet-1) (harvestIn sheet-1)
+    × (length (before 4) ≡ slotsIn sheet-1)
+    × PlansSheet sheet-1 (before 4) Met (255 ∷ 1 ∷ 0 ∷ 255 ∷ [])
+day-1-meets-the-hypotheses = (well-formed-1, even-1, fits-1, planned-1)
+
+pub day-1-is-decided : Decided sheet-1 (before 4) Met (255 ∷ 1 ∷ 0 ∷ 255 ∷ [])
+day-1-is-decided = even-days-are-decided sheet-1 (before 4) well-formed-1 even-1 fits-1 Met _ planned-1
 
 -- ---- day 5
 

@@ -2,44 +2,53 @@
 use Prim.Native.Nat.{ℕ, _<_, _≤_}
 use mathlib.Core.Path.{_≡_, refl, sym, ap, _∙_, subst}
 use mathlib.Core.List.{List}
-use mathlib.Core.Logic.{_⊎_, inl, inr, ⊎-elim}
+use mathlib.Core.Logic.{_⊎_, inl, inr}
 use native.Mathlib.Omega.{arith}
 use lib.ListN.{length}
 use borrow.Author.Tests.{eq-eqb}
 use Rattle.sheet.specs.Paper.{gives}
 use Rattle.sheet.specs.Sheet.{slotsIn, sheetSays, tableIn, harvestIn}
 use Rattle.sheet.specs.WellFormed.{WellFormed}
+use Rattle.sheet.specs.declared.Table.{Table}
 use Rattle.sheet.proofs.Theorems.{sheet-accepted-exactly}
 use Rattle.demand.specs.Demand.{kindNumber}
 use Rattle.demand.specs.Search.{Found, interval, nothing, smallestEnd}
 use Rattle.demand.specs.declared.Overload.{Overload}
 use Rattle.demand.proofs.Theorems.{search-finds, search-clear}
-use Rattle.slot_run.specs.Choosing.{Choice, nobody, job, leftOf, unfinished}
+use Rattle.slot_run.specs.Choosing.{nobody, leftOf, unfinished}
 use Rattle.slot_run.specs.Rules.{stateAt, planOf}
 use Rattle.slot_run.proofs.Choosing.{nobody-unfinished}
-use Rattle.planner.specs.Plan.{byUnfinished, verdictOf, planSheet, sheetPlanned}
+use Rattle.planner.specs.Plan.{verdictOf, planSheet, sheetPlanned}
 use Rattle.planner.specs.Promise.{PlansSheet}
 use Rattle.planner.specs.declared.Planned.{Planned}
 use Rattle.planner.specs.declared.Planned.the-variants.{Overloaded, Met, Undecided}
 use Rattle.planner.proofs.Theorems.{one-sheet-plan}
-use Rattle.judge.specs.Evidence.{AcceptablePlan, AcceptableClaim}
-use Rattle.judge.specs.Promise.{claimAnswered, JudgesSheetPlan, JudgesSheetClaim}
+use Rattle.judge.specs.Promise.{JudgesSheetPlan, JudgesTablePlan, JudgesSheetClaim, JudgesTableClaim}
 use Rattle.judge.specs.declared.JudgedPlan.{JudgedPlan}
-use Rattle.judge.specs.declared.JudgedPlan.the-variants.{Accepted}
+use Rattle.judge.specs.declared.JudgedPlan.the-variants as Plan
+use Rattle.judge.specs.declared.Sums.{Sums}
 use Rattle.judge.specs.declared.JudgedClaim.{JudgedClaim}
-use Rattle.judge.proofs.Theorems.{sheet-plan-accepted-exactly, sheet-claim-accepted-exactly}
-use Rattle.theorems.specs.Even.{EvenDay, Decided}
+use Rattle.judge.specs.declared.JudgedClaim.the-variants as Claim
+use Rattle.judge.proofs.Theorems.{sheet-plan-accepted-exactly, table-plan-accepted-exactly, sheet-claim-accepted-exactly, table-claim-accepted-exactly, acceptable-is-accepted, overloaded-is-accepted}
+use Rattle.theorems.specs.Even.{EvenDay, PlanAccepted, ClaimAccepted, Decided}
 use Rattle.theorems.proofs.EvenRun.{even-run-finishes}
 use Rattle.theorems.proofs.NoBoth.{no-plan-and-claim}
 use Rattle.theorems.proofs.RunPlan.{met-run-is-acceptable}
 
--- "No sheet has both an acceptable plan and an acceptable interval": the judge never accepts a plan and a claim for one sheet
-pub no-sheet-has-both : (s plan : List ℕ) (claimed from to : ℕ) (p : JudgedPlan) (c : JudgedClaim)
-    → JudgesSheetPlan s plan p → JudgesSheetClaim s claimed from to c → p ≡ Accepted → claimAnswered c ≡ gives tt → ⊥
-no-sheet-has-both s plan claimed from to p c judged-plan judged-claim accepts-plan accepts-claim =
+-- "No sheet has both an acceptable plan and an acceptable interval": the judge never accepts a plan and a claim for one sheet, nor for one table
+pub no-sheet-has-both : (s plan : List ℕ) (number from to : ℕ) (p : JudgedPlan) (c : JudgedClaim) (sums : Sums)
+    → JudgesSheetPlan s plan p → JudgesSheetClaim s number from to c → p ≡ Plan.Accepted → c ≡ Claim.Accepted sums → ⊥
+no-sheet-has-both s plan number from to p c sums judged-plan judged-claim accepts-plan accepts-claim =
     let good = sheet-plan-accepted-exactly s plan p judged-plan .0 accepts-plan in
-    let over = sheet-claim-accepted-exactly s claimed from to c judged-claim .0 accepts-claim in
-    no-plan-and-claim (tableIn s) (harvestIn s) plan (good .0 .good-table) (good .1) claimed from to (over .1)
+    let over = sheet-claim-accepted-exactly s number from to c judged-claim sums .0 accepts-claim in
+    no-plan-and-claim (tableIn s) (harvestIn s) plan (good .0 .good-table) (good .1) number from to (over .1)
+
+pub no-table-has-both : (t : Table) (harvest plan : List ℕ) (number from to : ℕ) (p : JudgedPlan) (c : JudgedClaim) (sums : Sums)
+    → JudgesTablePlan t harvest plan p → JudgesTableClaim t harvest number from to c → p ≡ Plan.Accepted → c ≡ Claim.Accepted sums → ⊥
+no-table-has-both t harvest plan number from to p c sums judged-plan judged-claim accepts-plan accepts-claim =
+    let good = table-plan-accepted-exactly t harvest plan p judged-plan .0 accepts-plan in
+    let over = table-claim-accepted-exactly t harvest number from to c judged-claim sums .0 accepts-claim in
+    no-plan-and-claim t harvest plan (good .0) (good .1) number from to (over .1)
 
 module _ (s plan : List ℕ) (good : WellFormed s) (fits : length plan ≡ slotsIn s) where
   -- past the checks, the planner's answer and buffer are the day's
@@ -51,17 +60,16 @@ module _ (s plan : List ℕ) (good : WellFormed s) (fits : length plan ≡ slots
   unfolding planSheet sheetPlanned verdictOf tableIn
   brings-interval o e = record { answer = rw (says, eq-eqb _ _ fits, e); buffer = rw (says, eq-eqb _ _ fits, e) }
 
-  accepts-interval : (o : Overload) → smallestEnd (tableIn s) (harvestIn s) (slotsIn s) ≡ interval o
-      → (c : JudgedClaim) → JudgesSheetClaim s (kindNumber (o .kind)) (o .from) (o .to) c → claimAnswered c ≡ gives tt
+  accepts-interval : (o : Overload) → smallestEnd (tableIn s) (harvestIn s) (slotsIn s) ≡ interval o → ClaimAccepted s (kindNumber (o .kind)) (o .from) (o .to)
   unfolding tableIn
-  accepts-interval o e c judged =
+  accepts-interval o e =
       let first = search-finds (tableIn s) (harvestIn s) (good .good-table) o e in
-      sheet-claim-accepted-exactly s (kindNumber (o .kind)) (o .from) (o .to) c judged .1 (
-        good,
-        record { kind = o .kind; kind-is = refl; in-order = first .in-order; in-day = first .in-day; overloaded = first .overloaded },
-      )
+      let is =
+      overloaded-is-accepted s (kindNumber (o .kind)) (o .from) (o .to) good
+      (record { kind = o .kind; kind-is = refl; in-order = first .in-order; in-day = first .in-day; overloaded = first .overloaded }) in
+      record { sums = is .0; answers = is .1; nothing-else = is .2 }
 
-  -- a day that its run meets: the plan, and the judge accepts it
+  -- a day that its run meets: the plan
   brings-plan : smallestEnd (tableIn s) (harvestIn s) (slotsIn s) ≡ nothing → unfinished (tableIn s) (stateAt (tableIn s) (harvestIn s) (slotsIn s)) ≡ nobody
       → PlansSheet s plan Met (planOf (tableIn s) (harvestIn s))
   unfolding planSheet sheetPlanned verdictOf tableIn
@@ -73,12 +81,14 @@ module _ (s plan : List ℕ) (good : WellFormed s) (fits : length plan ≡ slots
     unfolding tableIn
     finishes e = even-run-finishes (tableIn s) (harvestIn s) (good .good-table) even (search-clear (tableIn s) (harvestIn s) (good .good-table) e)
 
-    accepts-plan : smallestEnd (tableIn s) (harvestIn s) (slotsIn s) ≡ nothing → (p : JudgedPlan)
-        → JudgesSheetPlan s (planOf (tableIn s) (harvestIn s)) p → p ≡ Accepted
+    -- and the judge accepts it
+    accepts-plan : smallestEnd (tableIn s) (harvestIn s) (slotsIn s) ≡ nothing → PlanAccepted s (planOf (tableIn s) (harvestIn s))
     unfolding tableIn
-    accepts-plan e p judged =
-        sheet-plan-accepted-exactly s (planOf (tableIn s) (harvestIn s)) p judged .1
-        (good, met-run-is-acceptable (tableIn s) (harvestIn s) (good .good-table) (finishes e))
+    accepts-plan e =
+        let is =
+        acceptable-is-accepted s (planOf (tableIn s) (harvestIn s)) good
+        (met-run-is-acceptable (tableIn s) (harvestIn s) (good .good-table) (finishes e)) in
+        record { answers = is .0; nothing-else = is .1 }
 
     decides : (x : Found) → smallestEnd (tableIn s) (harvestIn s) (slotsIn s) ≡ x → (r : Planned) (after : List ℕ) → PlansSheet s plan r after
         → Decided s plan r after
@@ -87,7 +97,7 @@ module _ (s plan : List ℕ) (good : WellFormed s) (fits : length plan ≡ slots
         inr (o, same .0, same .1, accepts-interval o e)
     decides nothing e r after planned =
         let same = one-sheet-plan planned (brings-plan e (nobody-unfinished (tableIn s) (stateAt (tableIn s) (harvestIn s) (slotsIn s)) .1 (finishes e))) in
-        inl (same .0, (λ p judged. accepts-plan e p (subst (λ (l : List ℕ). JudgesSheetPlan s l p) (same .1) judged)))
+        inl (same .0, subst (PlanAccepted s) (sym (same .1)) (accepts-plan e))
 
 -- "On every well-formed even sheet .., lent a plan buffer of its slots, our planner's answer is one of the two, and the judge accepts it"
 pub even-days-are-decided : (s plan : List ℕ) → WellFormed s → EvenDay (tableIn s) (harvestIn s) → length plan ≡ slotsIn s

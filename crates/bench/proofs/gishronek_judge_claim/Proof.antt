@@ -4,17 +4,17 @@ use mathlib.Core.Path.{_≡_, ap₂, _∙_}
 use mathlib.Core.List.{List}
 use borrow.Author.Needs.{needs}
 use Rattle.sheet.specs.Paper.{Check}
-use Rattle.judge.specs.Judge.{Weights}
+use Rattle.judge.specs.declared.Sums.{Sums}
 use Rattle.judge.specs.Promise.{JudgesSheetClaim}
 use Rattle.judge.specs.declared.JudgedClaim.{JudgedClaim}
-use Rattle.bench.specs.Promise.{checkNumber, weightsNumber, JudgesClaim}
+use Rattle.bench.specs.Promise.{checkNumber, sumsNumber, JudgesClaim}
 use Rattle.bench.proofs.Numbers.{ClaimNumber}
 use Rattle.bench.proofs.gishronek_judge_claim.Statement.{statement}
 use Rattle.bench.proofs.gishronek_judge_claim.Tie as tie
 
 numbered : (s : List ℕ) (kind from to : ℕ) (a : JudgedClaim) (r : ℕ) → JudgesSheetClaim s kind from to a → ClaimNumber a r → JudgesClaim s kind from to r
 numbered s kind from to a r judges said =
-    said ∙ ap₂ (λ (c : Check) (w : Weights). checkNumber c + weightsNumber w) (judges .answer) (judges .weighed)
+    said ∙ ap₂ (λ (c : Check) (w : Sums). checkNumber c + sumsNumber w) (judges .answer) (judges .sums)
 
 claim-on-sheet-requires : tie.Need-claim-on-sheet-requires
 claim-on-sheet-requires c κs = search needs

@@ -3,8 +3,7 @@ use Prim.Native.Nat.{_≤_, _<_}
 use mathlib.Core.Path.{_≡_, sym, ap, _∙_}
 use mathlib.Core.Bool.{false}
 use native.Mathlib.Omega.{arith}
-use Rattle.judge.specs.Judge.{kindOf, claimFault, weightsOf}
-use Rattle.judge.specs.Promise.{sumsSay}
+use Rattle.judge.specs.Judge.{kindOf, claimFault, sumsOf}
 use Rattle.judge.proofs.Promised.{claim-in-day, judged-seventeen, judged-accepted, judged-eighteen}
 use borrow.Author.Needs.{needs}
 use Rattle.judge.proofs.judge_claim.Statement.{statement}
@@ -40,13 +39,13 @@ weighed : (c : tie.After-weigh)
     let args = asked .before .before .args in
     (asked .claim-fault .result ≡ claimFault (args .t .slots) (args .kind) (args .start) (args .end))
     × (asked .claim-fault .result ≡ false)
-    × (sumsSay (c .weigh .result) ≡ weightsOf (kindOf (args .kind)) (args .t) (args .harvest .now) (args .start) (args .end))
+    × (c .weigh .result ≡ sumsOf (kindOf (args .kind)) (args .t) (args .harvest .now) (args .start) (args .end))
 weighed c =
     let asked = c .before .before .before in
     let args = asked .before .before .args in (
       asked .claim-fault .ensures,
       c .before .before .if1 .left,
-      c .weigh .ensures ∙ ap (λ k. weightsOf k (args .t) (args .harvest .now) (args .start) (args .end)) (c .before .kind-of .ensures),
+      c .weigh .ensures ∙ ap (λ k. sumsOf k (args .t) (args .harvest .now) (args .start) (args .end)) (c .before .kind-of .ensures),
     )
 
 returns-2 : tie.Need-returns-2

@@ -2,19 +2,22 @@
 use Prim.Native.Nat.{ℕ, _≤_, _<_, _-_}
 use mathlib.Core.Path.{_≡_, refl, sym, ap, _∙_, subst}
 use native.Mathlib.Omega.{arith}
+use mathlib.Core.Bool.{Bool}
 use lib.Dec.{ltb}
 use lib.ListN.{getD}
 use borrow.Author.Tests.{lt-ltb, le-ltb}
-use Rattle.sheet.specs.Paper.{Check, gives, refusesAt, givenAt, inOrder}
+use Rattle.sheet.specs.Paper.{Check, gives, inOrder}
 use Rattle.sheet.specs.Table.{jobOf}
 use Rattle.sheet.proofs.Order.{in-order-none, in-order-clear, in-order-first, Refuses}
-use Rattle.judge.specs.Steps.{endSays, endsSay}
+use Rattle.judge.specs.Numbers.{faultSays, _applies-when_}
+use Rattle.judge.specs.declared.PlanFault.the-variants.{LacksSlots}
+use Rattle.judge.specs.Steps.{endBy, endsBy}
 use borrow.Author.Needs.{needs}
 use Rattle.judge.proofs.judge_ends.Statement.{statement}
 use Rattle.judge.proofs.judge_ends.Tie as tie
 
 abbrev Inv-loop : tie.InvT-loop
-Inv-loop got t count k₀ k = (count ≡ t .count) × (k ≤ count) × (inOrder (endSays t got) k ≡ gives tt)
+Inv-loop got t count k₀ k = (count ≡ t .count) × (k ≤ count) × (inOrder (endBy t got) k ≡ gives tt)
 
 abbrev μ-loop : tie.MeasureT-loop
 μ-loop got t count k₀ k = count - k
@@ -35,15 +38,15 @@ element-copy-out-if1-2 : tie.Need-element-copy-out-if1-2 Inv-loop μ-loop
 element-copy-out-if1-2 c = search needs
 
 returns : tie.Need-returns Inv-loop μ-loop
-unfolding endsSay
+unfolding endsBy
 returns c =
     let at-loop = c .before .before .before in
     let t = at-loop .before .args .t1 in
     let got = at-loop .before .args .got .now in
     let k = at-loop .loop .k in
     let lacks = lt-ltb (getD got k 0) (jobOf t k .wanted) (c .if1 .taken) in
-    let says : endSays t got k ≡ refusesAt 16 k = ap (givenAt 16 k) lacks in
-    sym (in-order-first (endSays t got) k (t .count) (c .before .before .loop-test .taken) (at-loop .loop .inv .2) (subst Refuses (sym says) tt) ∙ says)
+    let says : endBy t got k ≡ faultSays (LacksSlots k) = ap (λ (b : Bool). LacksSlots k applies-when b) lacks in
+    sym (in-order-first (endBy t got) k (t .count) (c .before .before .loop-test .taken) (at-loop .loop .inv .2) (subst Refuses (sym says) tt) ∙ says)
 
 add-k : tie.Need-add-k Inv-loop μ-loop
 add-k c = search needs
@@ -58,14 +61,14 @@ loop-again c =
     let got = at-loop .before .args .got .now in
     let k = at-loop .loop .k in
     let fine = le-ltb (getD got k 0) (jobOf t k .wanted) (c .if1 .left) in
-    (refl, search needs, in-order-clear (endSays t got) k (at-loop .loop .inv .2) (ap (givenAt 16 k) fine))
+    (refl, search needs, in-order-clear (endBy t got) k (at-loop .loop .inv .2) (ap (λ (b : Bool). LacksSlots k applies-when b) fine))
 
 returns-2 : tie.Need-returns-2 Inv-loop μ-loop
-unfolding endsSay
+unfolding endsBy
 returns-2 c =
     let args = c .before .before .args in
     let at-end : c .before .loop .k ≡ args .t1 .count = omega arith in
-    sym (ap (inOrder (endSays (args .t1) (args .got .now))) (sym at-end) ∙ c .before .loop .inv .2)
+    sym (ap (inOrder (endBy (args .t1) (args .got .now))) (sym at-end) ∙ c .before .loop .inv .2)
 
 pub judge-ends-spec : {M : Type 1} → statement M
 judge-ends-spec =
