@@ -1,13 +1,16 @@
 //! An independent second program for document 01 (the day sheet, the overload search,
-//! the ED-H slot run, the planner and the program `day`).
+//! the ED-H slot run, the planner, the judge of evidence and the program `day`), and for the
+//! bench's program `evidence`.
 //!
 //! It is written from the paper alone and shares no code with the proved crates: its answers
 //! are what theirs are compared with. Obvious code is preferred to fast code throughout. All
 //! arithmetic is in i64, which nothing here can overflow.
 //!
 //! Build: rustc -O second.rs -o second (in a folder outside the repository)
-//! Use:   second day < SHEET | second cases < FILE | second make [sheets | plans] > FILE |
-//!        second example NAME > SHEET | second self-test
+//! Use:   second day < SHEET | second cases < FILE | second make [sheets | plans | judged] > FILE |
+//!        second example NAME > EXAMPLE | second evidence SHEET plan PLAN |
+//!        second evidence SHEET claim KIND START END | second evidence-table < ROWS |
+//!        second self-test
 
 use std::io::{Read, Write};
 
@@ -53,19 +56,27 @@ impl Table {
     }
 }
 
-/// A refusal number; 5 and 6 name the record.
+/// What a refusal names: 5 and 6 the record, 12 to 15 the slot, 16 the job, the others nothing.
+#[derive(Clone, Copy, PartialEq, Debug)]
+enum Named {
+    Nothing,
+    Record(i64),
+    Slot(i64),
+    Job(i64),
+}
+
 #[derive(Clone, Copy, PartialEq, Debug)]
 struct Refusal {
     number: i64,
-    record: Option<i64>,
+    named: Named,
 }
 
 fn refuse<T>(number: i64) -> Result<T, Refusal> {
-    Err(Refusal { number, record: None })
+    refuse_naming(number, Named::Nothing)
 }
 
-fn refuse_record<T>(number: i64, record: i64) -> Result<T, Refusal> {
-    Err(Refusal { number, record: Some(record) })
+fn refuse_naming<T>(number: i64, named: Named) -> Result<T, Refusal> {
+    Err(Refusal { number, named })
 }
 
 /// 3: more than 64 jobs, or slots 0 or above 1,440.
@@ -79,10 +90,10 @@ fn check_limits(count: i64, slots: i64) -> Result<(), Refusal> {
 /// 5 before 6 in one record.
 fn check_record(record: i64, job: Job, last_byte: i64, slots: i64) -> Result<(), Refusal> {
     if !(job.release < job.deadline) || job.deadline > slots {
-        return refuse_record(5, record);
+        return refuse_naming(5, Named::Record(record));
     }
     if job.wanted == 0 || job.wanted > MOST_SLOTS || job.energy == 0 || last_byte != 0 {
-        return refuse_record(6, record);
+        return refuse_naming(6, Named::Record(record));
     }
     Ok(())
 }
@@ -542,6 +553,107 @@ fn plan_sheet(sheet: &[u8], plan: &mut [u8]) -> Result<Answer, Refusal> {
 }
 
 // ------------------------------------------------------------------------------------------
+// The judge of evidence
+//
+// It stands on the sheet and on demand alone, and knows nothing of the run or the planner.
+// ------------------------------------------------------------------------------------------
+
+/// The judge of a plan on a table and harvest: the table's checks, then 11, then slot by slot
+/// 12, 13, 14, 15, then 16. Not refused is accepted.
+fn judge_plan_table(table: &Table, harvest: &[u8], plan: &[u8]) -> Result<(), Refusal> {
+    check_table(table, harvest)?;
+    if plan.len() as i64 != table.slots {
+        return refuse(11);
+    }
+    let mut level = table.capacity;
+    let mut given = [0; MOST_JOBS as usize];
+    for slot in 0..table.slots {
+        let byte = plan[slot as usize];
+        let p = harvest[slot as usize] as i64;
+        let mut spent = 0;
+        if byte != IDLE_BYTE {
+            let number = byte as usize;
+            // 12: neither 255 nor a job's number
+            if number as i64 >= table.count {
+                return refuse_naming(12, Named::Slot(slot));
+            }
+            let job = table.jobs()[number];
+            // 13: from its release up to, not including, its deadline
+            if slot < job.release || slot >= job.deadline {
+                return refuse_naming(13, Named::Slot(slot));
+            }
+            // 14: that job already has all its slots
+            if given[number] >= job.wanted {
+                return refuse_naming(14, Named::Slot(slot));
+            }
+            // 15: level plus the slot's harvest is below that job's energy
+            if level + p < job.energy {
+                return refuse_naming(15, Named::Slot(slot));
+            }
+            given[number] += 1;
+            spent = job.energy;
+        }
+        level = table.capacity.min(level + p - spent);
+    }
+    // 16: the lowest job that lacks slots
+    for (number, job) in table.jobs().iter().enumerate() {
+        if given[number] < job.wanted {
+            return refuse_naming(16, Named::Job(number as i64));
+        }
+    }
+    Ok(())
+}
+
+/// The judge of a plan on a sheet.
+fn judge_plan_sheet(sheet: &[u8], plan: &[u8]) -> Result<(), Refusal> {
+    let (table, harvest) = read_sheet(sheet)?;
+    judge_plan_table(&table, harvest, plan)
+}
+
+/// A claim is a kind, a start and an end: any three numbers of 64 bits.
+#[derive(Clone, Copy, PartialEq, Debug)]
+struct Claim {
+    kind: u64,
+    start: u64,
+    end: u64,
+}
+
+/// A claim past 17: an interval of the day in one of the two kinds, its demand and its supply.
+/// It is accepted where demand is above supply; else it is refused 18.
+#[derive(Clone, Copy, PartialEq, Debug)]
+struct Weighed {
+    accepted: bool,
+    kind: Kind,
+    start: i64,
+    end: i64,
+    demand: i64,
+    supply: i64,
+}
+
+/// The judge of a claim on a table and harvest: the table's checks, then 17, then 18.
+fn judge_claim_table(table: &Table, harvest: &[u8], claim: Claim) -> Result<Weighed, Refusal> {
+    check_table(table, harvest)?;
+    let kind = match claim.kind {
+        0 => Kind::Time,
+        1 => Kind::Energy,
+        _ => return refuse(17),
+    };
+    if !(claim.start < claim.end) || claim.end > table.slots as u64 {
+        return refuse(17);
+    }
+    let (start, end) = (claim.start as i64, claim.end as i64);
+    let demand = demand(kind, table, start, end);
+    let supply = supply(kind, table, harvest, start, end);
+    Ok(Weighed { accepted: demand > supply, kind, start, end, demand, supply })
+}
+
+/// The judge of a claim on a sheet.
+fn judge_claim_sheet(sheet: &[u8], claim: Claim) -> Result<Weighed, Refusal> {
+    let (table, harvest) = read_sheet(sheet)?;
+    judge_claim_table(&table, harvest, claim)
+}
+
+// ------------------------------------------------------------------------------------------
 // The program `day`
 // ------------------------------------------------------------------------------------------
 
@@ -556,13 +668,16 @@ fn ground_word(decision: Decision) -> &'static str {
     }
 }
 
-fn overload_words(overload: Overload) -> String {
-    let kind = match overload.kind {
+fn kind_word(kind: Kind) -> &'static str {
+    match kind {
         Kind::Time => "time",
         Kind::Energy => "energy",
-    };
-    let Overload { start, end, demand, supply, .. } = overload;
-    format!("{kind} {start} {end} demand {demand} supply {supply}")
+    }
+}
+
+fn overload_words(overload: Overload) -> String {
+    let Overload { kind, start, end, demand, supply } = overload;
+    format!("{} {start} {end} demand {demand} supply {supply}", kind_word(kind))
 }
 
 /// The planner's answer after a met, undecided or overloaded day.
@@ -611,6 +726,187 @@ fn sheet_listing(sheet: &[u8]) -> String {
 }
 
 // ------------------------------------------------------------------------------------------
+// The program `evidence`
+//
+// It judges a plan or a claim from the bench, and says in one line what the judge says.
+// ------------------------------------------------------------------------------------------
+
+const EVIDENCE_USAGE: &str =
+    "usage: evidence SHEET plan PLAN, or evidence SHEET claim KIND START END";
+
+/// A number in decimal digits; one above 2^64 - 1 is taken as 2^64 - 1.
+fn decimal(word: &str) -> Option<u64> {
+    if word.is_empty() || !word.bytes().all(|digit| digit.is_ascii_digit()) {
+        return None;
+    }
+    let mut number: u64 = 0;
+    for digit in word.bytes() {
+        number = number.saturating_mul(10).saturating_add((digit - b'0') as u64);
+    }
+    Some(number)
+}
+
+/// A claim's kind: a word, or its number.
+fn kind_number(word: &str) -> Option<u64> {
+    match word {
+        "time" => Some(0),
+        "energy" => Some(1),
+        _ => decimal(word),
+    }
+}
+
+/// The bytes of a file, or the line that says why it is no evidence.
+fn file_bytes(name: &str) -> Result<Vec<u8>, String> {
+    let mut bytes = Vec::new();
+    let most = LONGEST_INPUT as u64 + 1;
+    let read = std::fs::File::open(name).and_then(|file| file.take(most).read_to_end(&mut bytes));
+    if read.is_err() {
+        return Err(format!("cannot read {name}"));
+    }
+    if bytes.len() > LONGEST_INPUT {
+        return Err(format!("too long: {name}"));
+    }
+    Ok(bytes)
+}
+
+/// The line for a refused sheet: 1 to 6.
+fn sheet_refused_line(refusal: Refusal) -> String {
+    let why = match refusal.number {
+        1 => "the sheet is under 12 bytes",
+        2 => "the sheet does not end in 45 48 (hex)",
+        3 => "the sheet has more than 64 jobs, or slots 0 or above 1440",
+        4 => "the sheet's back distances or its length do not fit its jobs and slots",
+        5 => "its release is not below its deadline, or its deadline is above slots",
+        6 => "it wants 0 slots or above 1440, its energy is 0, or its last byte is not zero",
+        _ => unreachable!("a sheet is refused 1 to 6"),
+    };
+    match refusal.named {
+        Named::Record(record) => format!("refused {} at record {record}: {why}", refusal.number),
+        _ => format!("refused {}: {why}", refusal.number),
+    }
+}
+
+/// The line for a plan that was refused 12 to 15 in a slot.
+fn slot_refused_line(table: &Table, plan: &[u8], number: i64, slot: i64) -> String {
+    let byte = plan[slot as usize];
+    let refused = format!("refused {number} at slot {slot}");
+    if number == 12 {
+        let jobs = match table.count {
+            0 => "there is no job".to_string(),
+            count => format!("0 to {}", count - 1),
+        };
+        return format!(
+            "{refused}: byte {byte} is neither 255 for idle nor a job's number ({jobs})"
+        );
+    }
+    let Job { release, deadline, wanted, energy } = table.jobs()[byte as usize];
+    match number {
+        13 => format!("{refused}: job {byte} may run in slots {release} to {} only", deadline - 1),
+        14 => format!("{refused}: job {byte} already has all its slots ({wanted})"),
+        15 => format!(
+            "{refused}: level plus harvest is below the charge that job {byte} needs ({energy})"
+        ),
+        _ => unreachable!("a slot is refused 12 to 15"),
+    }
+}
+
+/// What `evidence` says of a plan.
+fn plan_evidence(sheet: &[u8], plan: &[u8]) -> String {
+    let table = match read_sheet(sheet) {
+        Err(refusal) => return sheet_refused_line(refusal),
+        Ok((table, _)) => table,
+    };
+    let refusal = match judge_plan_sheet(sheet, plan) {
+        Err(refusal) => refusal,
+        Ok(()) => {
+            return "accepted: every job gets its slots inside its window, \
+                    and no busy slot lacks charge"
+                .to_string()
+        }
+    };
+    match refusal.named {
+        Named::Slot(slot) => slot_refused_line(&table, plan, refusal.number, slot),
+        Named::Job(job) => {
+            let wanted = table.jobs()[job as usize].wanted;
+            format!(
+                "refused 16, job {job}: after the last slot it lacks some of its slots ({wanted})"
+            )
+        }
+        _ => {
+            let (bytes, slots) = (plan.len(), table.slots);
+            format!("refused 11: the plan has {bytes} bytes and the day has {slots} slots")
+        }
+    }
+}
+
+/// What `evidence` says of a claim.
+fn claim_evidence(sheet: &[u8], claim: Claim) -> String {
+    let table = match read_sheet(sheet) {
+        Err(refusal) => return sheet_refused_line(refusal),
+        Ok((table, _)) => table,
+    };
+    let weighed = match judge_claim_sheet(sheet, claim) {
+        Ok(weighed) => weighed,
+        Err(_) => {
+            return format!(
+                "refused 17: the claim is no interval of the day: a kind is 0 (time) or \
+                 1 (energy), the start is below the end, and the end is at most {}",
+                table.slots
+            )
+        }
+    };
+    let Weighed { accepted, kind, start, end, demand, supply } = weighed;
+    let interval = format!("in slots {start} to {} {}", end - 1, kind_word(kind));
+    if accepted {
+        format!("accepted: {interval} demand {demand} is above supply {supply}")
+    } else {
+        format!("refused 18: {interval} demand {demand} is not above supply {supply}")
+    }
+}
+
+/// The line for the arguments: they are checked first, then the files, the sheet before the plan.
+fn evidence_line(words: &[&str]) -> String {
+    let line = match *words {
+        [sheet, "plan", plan] => plan_line_of_files(sheet, plan),
+        [sheet, "claim", kind, start, end] => {
+            match (kind_number(kind), decimal(start), decimal(end)) {
+                (Some(kind), Some(start), Some(end)) => {
+                    claim_line_of_file(sheet, Claim { kind, start, end })
+                }
+                _ => Err(EVIDENCE_USAGE.to_string()),
+            }
+        }
+        _ => Err(EVIDENCE_USAGE.to_string()),
+    };
+    match line {
+        Ok(judged) => judged,
+        Err(no_evidence) => no_evidence,
+    }
+}
+
+fn plan_line_of_files(sheet: &str, plan: &str) -> Result<String, String> {
+    let sheet = file_bytes(sheet)?;
+    let plan = file_bytes(plan)?;
+    Ok(plan_evidence(&sheet, &plan))
+}
+
+fn claim_line_of_file(sheet: &str, claim: Claim) -> Result<String, String> {
+    let sheet = file_bytes(sheet)?;
+    Ok(claim_evidence(&sheet, claim))
+}
+
+/// Rows of arguments, ` | ` and a line: each row again, with the line that comes out.
+fn evidence_table(rows: &str) -> String {
+    let mut table = String::new();
+    for row in rows.lines() {
+        let arguments = row.split(" | ").next().unwrap();
+        let words: Vec<&str> = arguments.split(' ').collect();
+        table += &format!("{arguments} | {}\n", evidence_line(&words));
+    }
+    table
+}
+
+// ------------------------------------------------------------------------------------------
 // Case files
 //
 // A case is a kind byte, a length u16 and that many payload bytes. A case file that breaks its
@@ -647,6 +943,25 @@ impl<'a> Payload<'a> {
         number_at(self.take(2), 0)
     }
 
+    /// A number of 64 bits.
+    fn long(&mut self) -> u64 {
+        let mut number = 0;
+        for byte in self.take(8).iter().rev() {
+            number = 256 * number + *byte as u64;
+        }
+        number
+    }
+
+    fn claim(&mut self) -> Claim {
+        Claim { kind: self.long(), start: self.long(), end: self.long() }
+    }
+
+    /// A length and that many bytes.
+    fn counted(&mut self) -> &'a [u8] {
+        let length = self.number();
+        self.take(length as usize)
+    }
+
     fn rest(&mut self) -> &'a [u8] {
         self.take(self.bytes.len() - self.at)
     }
@@ -667,8 +982,7 @@ impl<'a> Payload<'a> {
                 energy: self.byte(),
             };
         }
-        let length = self.number();
-        let harvest = self.take(length as usize);
+        let harvest = self.counted();
         assert!(self.is_done(), "bytes are left after a table payload");
         (Table { count, slots, capacity, places }, harvest)
     }
@@ -687,9 +1001,12 @@ fn byte_checksum(bytes: &[u8]) -> i64 {
 }
 
 fn refusal_words(refusal: Refusal) -> String {
-    match refusal.record {
-        None => format!("refused {}", refusal.number),
-        Some(record) => format!("refused {} record {record}", refusal.number),
+    let number = refusal.number;
+    match refusal.named {
+        Named::Nothing => format!("refused {number}"),
+        Named::Record(record) => format!("refused {number} record {record}"),
+        Named::Slot(slot) => format!("refused {number} slot {slot}"),
+        Named::Job(job) => format!("refused {number} job {job}"),
     }
 }
 
@@ -780,6 +1097,49 @@ fn step_case(payload: &[u8]) -> String {
     )
 }
 
+fn judge_line(answer: Result<(), Refusal>) -> String {
+    match answer {
+        Ok(()) => "judge accepted".to_string(),
+        Err(refusal) => format!("judge {}", refusal_words(refusal)),
+    }
+}
+
+fn judge_plan_sheet_case(payload: &[u8]) -> String {
+    let mut payload = Payload::new(payload);
+    let plan = payload.counted();
+    judge_line(judge_plan_sheet(payload.rest(), plan))
+}
+
+fn judge_plan_table_case(payload: &[u8]) -> String {
+    let mut payload = Payload::new(payload);
+    let plan = payload.counted();
+    let (table, harvest) = payload.table();
+    judge_line(judge_plan_table(&table, harvest, plan))
+}
+
+fn claim_line(answer: Result<Weighed, Refusal>) -> String {
+    match answer {
+        Ok(Weighed { accepted, demand, supply, .. }) => {
+            let words = if accepted { "accepted" } else { "refused 18" };
+            format!("claim {words} demand {demand} supply {supply}")
+        }
+        Err(refusal) => format!("claim {}", refusal_words(refusal)),
+    }
+}
+
+fn judge_claim_sheet_case(payload: &[u8]) -> String {
+    let mut payload = Payload::new(payload);
+    let claim = payload.claim();
+    claim_line(judge_claim_sheet(payload.rest(), claim))
+}
+
+fn judge_claim_table_case(payload: &[u8]) -> String {
+    let mut payload = Payload::new(payload);
+    let claim = payload.claim();
+    let (table, harvest) = payload.table();
+    claim_line(judge_claim_table(&table, harvest, claim))
+}
+
 fn case_line(kind: u8, payload: &[u8]) -> String {
     match kind {
         b'R' => read_case(payload),
@@ -788,6 +1148,10 @@ fn case_line(kind: u8, payload: &[u8]) -> String {
         b'Q' => plan_table_case(payload),
         b'S' => step_case(payload),
         b'D' => sheet_listing(payload).trim_end().to_string(),
+        b'J' => judge_plan_sheet_case(payload),
+        b'K' => judge_plan_table_case(payload),
+        b'C' => judge_claim_sheet_case(payload),
+        b'L' => judge_claim_table_case(payload),
         _ => "unknown".to_string(),
     }
 }
@@ -864,6 +1228,11 @@ fn paper_days() -> Vec<Day> {
         Day::new(0, &[1, 1], &[(0, 2, 2, 1)]),
     ]
 }
+
+/// The plans of days 9 and 10.
+const DAY_9_ACCEPTED: [u8; 4] = [0xFF, 0x01, 0x00, 0xFF];
+const DAY_9_REFUSED: [u8; 4] = [0x00, 0x01, 0xFF, 0xFF];
+const DAY_10_PLAN: [u8; 9] = [0xFF, 0x01, 0x01, 0x01, 0x01, 0xFF, 0x00, 0x00, 0xFF];
 
 /// Days that show what hardly any run shows.
 fn telling_days() -> Vec<Day> {
@@ -1089,11 +1458,21 @@ fn day_payload(day: &Day) -> Vec<u8> {
     table_payload(day.jobs.len() as i64, day.slots(), day.capacity, &day.jobs, &day.harvest)
 }
 
-/// The kinds of case, by group: those of the reader and the writer, and those of the planner, the
-/// step and the listing.
+/// Kind, start and end, each a number of 64 bits.
+fn claim_payload(claim: Claim) -> Vec<u8> {
+    let mut payload = Vec::new();
+    for number in [claim.kind, claim.start, claim.end] {
+        payload.extend(number.to_le_bytes());
+    }
+    payload
+}
+
+/// The kinds of case, by group: those of the reader and the writer, those of the planner, the step
+/// and the listing, and those of the judge.
 const SHEETS: &[u8] = b"RW";
 const PLANS: &[u8] = b"PQSD";
-const ALL_KINDS: &[u8] = b"RWPQSD";
+const JUDGED: &[u8] = b"JKCL";
+const ALL_KINDS: &[u8] = b"RWPQSDJKCL";
 
 /// The case file while it grows: each case's kind and payload.
 struct CaseFile {
@@ -1151,6 +1530,50 @@ impl CaseFile {
 
     fn list(&mut self, sheet: &[u8]) {
         self.add(b'D', sheet);
+    }
+
+    /// A case that the file does not have yet.
+    fn add_once(&mut self, kind: u8, payload: Vec<u8>) {
+        let case = (kind, payload);
+        if !self.cases.contains(&case) {
+            self.cases.push(case);
+        }
+    }
+
+    fn judge_sheet(&mut self, plan: &[u8], sheet: &[u8]) {
+        let length = little_endian(plan.len() as i64);
+        self.add_once(b'J', [&length[..], plan, sheet].concat());
+    }
+
+    fn judge_table(&mut self, plan: &[u8], table: &[u8]) {
+        let length = little_endian(plan.len() as i64);
+        self.add_once(b'K', [&length[..], plan, table].concat());
+    }
+
+    fn claim_sheet(&mut self, claim: Claim, sheet: &[u8]) {
+        self.add_once(b'C', [&claim_payload(claim)[..], sheet].concat());
+    }
+
+    fn claim_table(&mut self, claim: Claim, table: &[u8]) {
+        self.add_once(b'L', [&claim_payload(claim)[..], table].concat());
+    }
+
+    /// The plan on the day's sheet and on its table in turn.
+    fn judge_in_turn(&mut self, plan: &[u8], day: &Day) {
+        if self.cases.len() % 2 == 0 {
+            self.judge_sheet(plan, &day.sheet());
+        } else {
+            self.judge_table(plan, &day_payload(day));
+        }
+    }
+
+    /// The claim on the day's sheet and on its table in turn, so that both kinds come to both.
+    fn claim_in_turn(&mut self, claim: Claim, day: &Day) {
+        if (claim.kind + claim.start + claim.end) % 2 == 0 {
+            self.claim_sheet(claim, &day.sheet());
+        } else {
+            self.claim_table(claim, &day_payload(day));
+        }
     }
 
     /// A step from every state the day's run passes through, and one from its end.
@@ -1704,23 +2127,44 @@ fn add_random(file: &mut CaseFile, dice: &mut Dice) {
     }
 }
 
+/// Not overloaded, and each of the six grounds in a dozen slots and more.
+fn largest_example() -> Day {
+    large_day(&mut Dice { state: 3580 }, 18)
+}
+
 /// The sheets of the folder examples/, by name.
 fn examples() -> Vec<(String, Vec<u8>)> {
     let mut sheets = Vec::new();
     for (i, day) in paper_days().iter().enumerate() {
         sheets.push((format!("day-{}", i + 1), day.sheet()));
     }
-    // not overloaded, and each of the six grounds in a dozen slots and more
-    let largest = large_day(&mut Dice { state: 3580 }, 18);
-    sheets.push(("largest-day".to_string(), largest.sheet()));
+    sheets.push(("largest-day".to_string(), largest_example().sheet()));
     // day 1, where the deadline of job 1 is one slot past the end of the day
     sheets.push(("refused".to_string(), with_number(&paper_days()[0].sheet(), 10, 5)));
     sheets
 }
 
+/// The plans of the folder examples/, by name.
+fn example_plans() -> Vec<(String, Vec<u8>)> {
+    let plans: [(&str, &[u8]); 8] = [
+        ("day-9-accepted.plan", &DAY_9_ACCEPTED),
+        ("day-9-refused.plan", &DAY_9_REFUSED),
+        ("day-10.plan", &DAY_10_PLAN),
+        ("largest-day.plan", &run_plan(&largest_example())),
+        // slips in a plan for day 1: refused 12, 13 and 14
+        ("day-1-no-job.plan", &[0xFF, 0x01, 0x02, 0xFF]),
+        ("day-1-too-early.plan", &[0x01, 0xFF, 0x00, 0xFF]),
+        ("day-1-twice.plan", &[0xFF, 0x01, 0x00, 0x00]),
+        // job 0 in the only slot, for a day with no jobs
+        ("day-7-no-job.plan", &[0x00]),
+    ];
+    plans.iter().map(|(name, plan)| (name.to_string(), plan.to_vec())).collect()
+}
+
+/// A sheet by its name, or a plan by its name and ending.
 fn example(name: &str) -> Vec<u8> {
-    let found = examples().into_iter().find(|example| example.0 == name);
-    found.expect("the name of an example").1
+    let mut all = examples().into_iter().chain(example_plans());
+    all.find(|example| example.0 == name).expect("the name of an example").1
 }
 
 /// The listings: the examples, and random days in which every answer and ground has its turn.
@@ -1742,7 +2186,738 @@ fn make_cases() -> CaseFile {
     add_random(&mut file, &mut dice);
     add_large(&mut file, &mut dice);
     add_listings(&mut file, &mut dice);
+    make_judged_cases(&mut file);
     file
+}
+
+// ------------------------------------------------------------------------------------------
+// Making the judged cases
+// ------------------------------------------------------------------------------------------
+
+/// A day, and plans for it with what the judge says of each.
+struct JudgedPlans {
+    day: Day,
+    plans: Vec<(Vec<u8>, String)>,
+}
+
+fn judged_plans(day: Day, plans: &[(&[u8], &str)]) -> JudgedPlans {
+    let owned = |plan: &(&[u8], &str)| (plan.0.to_vec(), plan.1.to_string());
+    JudgedPlans { day, plans: plans.iter().map(owned).collect() }
+}
+
+/// The day's windows, slots wanted and slots lacking: 12, 13, 14, 16 and which comes first.
+fn window_plans() -> Vec<JudgedPlans> {
+    vec![
+        // both sides of a window, one slot too many, one too few
+        judged_plans(
+            Day::new(9, &[0; 5], &[(1, 4, 2, 1)]),
+            &[
+                (&[255, 0, 255, 0, 255], "accepted"),
+                (&[255, 255, 0, 0, 255], "accepted"),
+                (&[0, 0, 255, 255, 255], "refused 13 slot 0"),
+                (&[255, 0, 255, 255, 0], "refused 13 slot 4"),
+                (&[255, 0, 0, 0, 255], "refused 14 slot 3"),
+                (&[255, 0, 0, 255, 0], "refused 13 slot 4"),
+                (&[255, 0, 255, 255, 255], "refused 16 job 0"),
+                (&[255, 255, 255, 255, 255], "refused 16 job 0"),
+            ],
+        ),
+        // a window that is the whole day
+        judged_plans(
+            Day::new(1, &[0; 3], &[(0, 3, 1, 1)]),
+            &[
+                (&[0, 255, 255], "accepted"),
+                (&[255, 255, 0], "accepted"),
+                (&[0, 255, 0], "refused 14 slot 2"),
+            ],
+        ),
+        // the lowest job that lacks slots, whatever its deadline; deadlines in any order are fine
+        judged_plans(
+            Day::new(9, &[0; 6], &[(0, 6, 2, 1), (0, 3, 1, 1), (0, 6, 1, 1)]),
+            &[
+                (&[1, 0, 0, 2, 255, 255], "accepted"),
+                (&[0, 2, 1, 255, 255, 0], "accepted"),
+                (&[1, 0, 255, 2, 255, 255], "refused 16 job 0"),
+                (&[0, 0, 255, 2, 255, 255], "refused 16 job 1"),
+                (&[1, 0, 0, 255, 255, 255], "refused 16 job 2"),
+                (&[255, 0, 0, 255, 255, 255], "refused 16 job 1"),
+                (&[0, 255, 255, 255, 255, 2], "refused 16 job 0"),
+                (&[2, 0, 255, 0, 255, 1], "refused 13 slot 5"),
+                (&[2, 0, 1, 0, 0, 255], "refused 14 slot 4"),
+            ],
+        ),
+        // two jobs that are alike keep their numbers
+        judged_plans(
+            Day::new(2, &[0; 2], &[(0, 2, 1, 1), (0, 2, 1, 1)]),
+            &[
+                (&[0, 1], "accepted"),
+                (&[1, 0], "accepted"),
+                (&[0, 0], "refused 14 slot 1"),
+                (&[1, 255], "refused 16 job 0"),
+                (&[255, 0], "refused 16 job 1"),
+            ],
+        ),
+        // more slots wanted than the window has, or the day
+        judged_plans(
+            Day::new(9, &[0; 3], &[(0, 2, 3, 1)]),
+            &[(&[0, 0, 255], "refused 16 job 0"), (&[0, 0, 0], "refused 13 slot 2")],
+        ),
+        judged_plans(
+            Day::new(9, &[0; 2], &[(0, 2, 1440, 1)]),
+            &[(&[0, 0], "refused 16 job 0"), (&[255, 255], "refused 16 job 0")],
+        ),
+        // no jobs
+        judged_plans(
+            Day::new(3, &[0, 9], &[]),
+            &[
+                (&[255, 255], "accepted"),
+                (&[255, 0], "refused 12 slot 1"),
+                (&[254, 0], "refused 12 slot 0"),
+                (&[255], "refused 11"),
+                (&[255, 255, 255], "refused 11"),
+                (&[], "refused 11"),
+            ],
+        ),
+        // charge for all: 13 before 14 in one slot
+        judged_plans(
+            Day::new(9, &[0; 4], &[(0, 2, 1, 1), (1, 4, 1, 1)]),
+            &[
+                (&[0, 1, 255, 255], "accepted"),
+                (&[0, 255, 0, 255], "refused 13 slot 2"),
+                (&[0, 0, 255, 255], "refused 14 slot 1"),
+                (&[1, 0, 255, 255], "refused 13 slot 0"),
+            ],
+        ),
+        // charge for one: 13 before 14 before 15 in one slot, and an earlier slot before a later
+        judged_plans(
+            Day::new(1, &[0; 4], &[(0, 2, 1, 1), (1, 4, 1, 1)]),
+            &[
+                (&[0, 1, 255, 255], "refused 15 slot 1"),
+                (&[0, 0, 255, 255], "refused 14 slot 1"),
+                (&[0, 255, 0, 255], "refused 13 slot 2"),
+                (&[255, 1, 0, 255], "refused 13 slot 2"),
+                (&[0, 2, 255, 255], "refused 12 slot 1"),
+                (&[0, 1, 2, 255], "refused 15 slot 1"),
+                (&[0, 1, 0, 2], "refused 15 slot 1"),
+                (&[0, 0, 2, 0], "refused 14 slot 1"),
+                (&[0, 255, 0, 2], "refused 13 slot 2"),
+                (&[0, 255, 2, 0], "refused 12 slot 2"),
+                (&[255, 255, 255, 2], "refused 12 slot 3"),
+                (&[255, 255, 255, 1], "refused 16 job 0"),
+                (&[0, 255, 255, 255], "refused 16 job 1"),
+                (&[0, 2, 0], "refused 11"),
+                (&[2, 2, 2, 2, 2], "refused 11"),
+                (&[], "refused 11"),
+            ],
+        ),
+    ]
+}
+
+/// The level: 15 by one, what a full reservoir spills, and the ends of the ranges.
+fn level_plans() -> Vec<JudgedPlans> {
+    let accepted = |day: Day, plan: &[u8]| judged_plans(day, &[(plan, "accepted")]);
+    let empty = |day: Day, plan: &[u8], slot: i64| {
+        judged_plans(day, &[(plan, &format!("refused 15 slot {slot}"))])
+    };
+    vec![
+        // spent to exactly empty, and a later slot's harvest used as it comes in
+        accepted(Day::new(3, &[0, 0, 0, 1], &[(0, 4, 1, 3), (1, 4, 1, 1)]), &[0, 255, 255, 1]),
+        empty(Day::new(3, &[0, 0, 0, 1], &[(0, 4, 1, 3), (1, 4, 1, 1)]), &[0, 255, 1, 255], 2),
+        empty(Day::new(3, &[0, 0, 0, 1], &[(0, 4, 1, 3), (1, 4, 1, 2)]), &[0, 255, 255, 1], 3),
+        // one left: enough for 1 and not for 2
+        accepted(Day::new(3, &[0, 0], &[(0, 1, 1, 2), (1, 2, 1, 1)]), &[0, 1]),
+        empty(Day::new(3, &[0, 0], &[(0, 1, 1, 2), (1, 2, 1, 2)]), &[0, 1], 1),
+        // one short of full, exactly full and spilling after a busy slot
+        accepted(Day::new(3, &[0, 0], &[(0, 1, 1, 1), (1, 2, 1, 2)]), &[0, 1]),
+        empty(Day::new(3, &[0, 0], &[(0, 1, 1, 1), (1, 2, 1, 3)]), &[0, 1], 1),
+        accepted(Day::new(3, &[1, 0], &[(0, 1, 1, 1), (1, 2, 1, 3)]), &[0, 1]),
+        empty(Day::new(3, &[1, 0], &[(0, 1, 1, 1), (1, 2, 1, 4)]), &[0, 1], 1),
+        accepted(Day::new(3, &[2, 0], &[(0, 1, 1, 1), (1, 2, 1, 3)]), &[0, 1]),
+        empty(Day::new(3, &[2, 0], &[(0, 1, 1, 1), (1, 2, 1, 4)]), &[0, 1], 1),
+        empty(Day::new(2, &[5, 0], &[(0, 1, 1, 1), (1, 2, 1, 3)]), &[0, 1], 1),
+        // a slot's own harvest is spent before the rest is cut at capacity
+        accepted(Day::new(3, &[1], &[(0, 1, 1, 4)]), &[0]),
+        empty(Day::new(3, &[1], &[(0, 1, 1, 5)]), &[0], 0),
+        accepted(Day::new(2, &[5, 0], &[(0, 2, 1, 3)]), &[0, 255]),
+        // what an idle slot spills is gone
+        empty(Day::new(2, &[5, 0], &[(0, 2, 1, 3)]), &[255, 0], 1),
+        accepted(Day::new(2, &[5, 0], &[(0, 2, 1, 2)]), &[255, 0]),
+        empty(Day::new(2, &[5, 0, 0], &[(0, 3, 1, 3)]), &[255, 255, 0], 2),
+        accepted(Day::new(4, &[3, 0, 1, 0], &[(0, 4, 2, 3)]), &[0, 0, 255, 255]),
+        empty(Day::new(4, &[3, 0, 1, 0], &[(0, 4, 2, 3)]), &[255, 0, 0, 255], 2),
+        // the reservoir starts full and fills again from one short
+        accepted(Day::new(4, &[0, 3, 0, 0], &[(0, 1, 1, 3), (3, 4, 1, 4)]), &[0, 255, 255, 1]),
+        empty(Day::new(4, &[0, 2, 0, 0], &[(0, 1, 1, 3), (3, 4, 1, 4)]), &[0, 255, 255, 1], 3),
+        accepted(Day::new(4, &[0, 4, 0, 0], &[(0, 1, 1, 3), (3, 4, 1, 4)]), &[0, 255, 255, 1]),
+        empty(Day::new(4, &[0, 4, 0, 0], &[(0, 1, 1, 3), (3, 4, 1, 5)]), &[0, 255, 255, 1], 3),
+        // no reservoir
+        accepted(Day::new(0, &[2, 2], &[(0, 2, 1, 2)]), &[255, 0]),
+        empty(Day::new(0, &[2, 2], &[(0, 2, 1, 3)]), &[255, 0], 1),
+        empty(Day::new(0, &[2, 0], &[(0, 2, 2, 1)]), &[0, 0], 1),
+        // the largest energy
+        accepted(Day::new(255, &[0], &[(0, 1, 1, 255)]), &[0]),
+        empty(Day::new(254, &[0], &[(0, 1, 1, 255)]), &[0], 0),
+        accepted(Day::new(254, &[1], &[(0, 1, 1, 255)]), &[0]),
+        accepted(Day::new(0, &[255], &[(0, 1, 1, 255)]), &[0]),
+        empty(Day::new(0, &[254], &[(0, 1, 1, 255)]), &[0], 0),
+        accepted(Day::new(256, &[0, 0], &[(0, 1, 1, 255), (1, 2, 1, 1)]), &[0, 1]),
+        empty(Day::new(256, &[0, 0], &[(0, 1, 1, 255), (1, 2, 1, 2)]), &[0, 1], 1),
+        // level plus harvest above 65,535, busy and idle
+        accepted(Day::new(65535, &[255, 255], &[(0, 2, 2, 255)]), &[0, 0]),
+        accepted(Day::new(65535, &[255, 0], &[(1, 2, 1, 255)]), &[255, 0]),
+        accepted(Day::new(65535, &[1, 0], &[(0, 2, 1, 1)]), &[0, 255]),
+        accepted(Day::new(65535, &[1, 0], &[(0, 2, 1, 1)]), &[255, 0]),
+    ]
+}
+
+/// Plans that need more bytes: counts and slots above 255, and all 64 jobs.
+fn longer_plans() -> Vec<JudgedPlans> {
+    // 257 slots wanted of a window of 258 in a day of 260
+    let long = Day::new(300, &[1; 260], &[(0, 258, 257, 1)]);
+    let times = |from: usize, to: usize| {
+        let mut plan = vec![IDLE_BYTE; 260];
+        for slot in from..to {
+            plan[slot] = 0;
+        }
+        plan
+    };
+    // job n in slot n, and every slot taken
+    let jobs: Vec<_> = (0..64).map(|number| (number, number + 1, 1, 1)).collect();
+    let all = Day::new(64, &[0; 64], &jobs);
+    let whole: Vec<u8> = (0..64).collect();
+    vec![
+        judged_plans(
+            long,
+            &[
+                (&times(1, 258), "accepted"),
+                (&times(0, 1), "refused 16 job 0"),
+                (&times(0, 258), "refused 14 slot 257"),
+                (&times(2, 259), "refused 13 slot 258"),
+            ],
+        ),
+        judged_plans(
+            all,
+            &[
+                (&whole, "accepted"),
+                (&with_byte(&whole, 63, IDLE_BYTE), "refused 16 job 63"),
+                (&with_byte(&whole, 63, 64), "refused 12 slot 63"),
+                (&with_byte(&whole, 62, 63), "refused 13 slot 62"),
+            ],
+        ),
+    ]
+}
+
+/// Every plan made by hand.
+fn plans_by_hand() -> Vec<JudgedPlans> {
+    let mut all = window_plans();
+    all.extend(level_plans());
+    all.extend(longer_plans());
+    all
+}
+
+const TIME: u64 = 0;
+const ENERGY: u64 = 1;
+
+/// A day, and claims on it with what the judge says of each.
+struct JudgedClaims {
+    day: Day,
+    claims: Vec<(Claim, String)>,
+}
+
+fn judged_claims(day: Day, claims: &[(u64, u64, u64, &str)]) -> JudgedClaims {
+    let owned = |&(kind, start, end, words): &(u64, u64, u64, &str)| {
+        (Claim { kind, start, end }, words.to_string())
+    };
+    JudgedClaims { day, claims: claims.iter().map(owned).collect() }
+}
+
+fn claims_by_hand() -> Vec<JudgedClaims> {
+    vec![
+        // day 11, and the same day without its harvest
+        judged_claims(
+            paper_days()[0].clone(),
+            &[(ENERGY, 0, 4, "refused 18 demand 2 supply 2")],
+        ),
+        judged_claims(
+            paper_days()[1].clone(),
+            &[
+                (ENERGY, 0, 4, "accepted demand 2 supply 1"),
+                (TIME, 0, 4, "refused 18 demand 2 supply 4"),
+            ],
+        ),
+        // a job partly inside is not of the interval
+        judged_claims(
+            Day::new(1, &[0; 6], &[(1, 4, 3, 2), (2, 5, 2, 1)]),
+            &[
+                (TIME, 1, 4, "refused 18 demand 3 supply 3"),
+                (TIME, 1, 5, "accepted demand 5 supply 4"),
+                (TIME, 0, 5, "refused 18 demand 5 supply 5"),
+                (TIME, 1, 6, "refused 18 demand 5 supply 5"),
+                (TIME, 2, 4, "refused 18 demand 0 supply 2"),
+                (TIME, 1, 3, "refused 18 demand 0 supply 2"),
+                (TIME, 2, 5, "refused 18 demand 2 supply 3"),
+                (ENERGY, 1, 4, "accepted demand 6 supply 1"),
+                (ENERGY, 2, 4, "refused 18 demand 0 supply 1"),
+                (ENERGY, 1, 3, "refused 18 demand 0 supply 1"),
+                (ENERGY, 2, 5, "accepted demand 2 supply 1"),
+            ],
+        ),
+        // a late start counts the whole capacity, and of the harvest only what lies inside
+        judged_claims(
+            Day::new(1, &[9, 0, 0, 9], &[(1, 3, 1, 2)]),
+            &[
+                (ENERGY, 1, 3, "accepted demand 2 supply 1"),
+                (ENERGY, 0, 3, "refused 18 demand 2 supply 10"),
+                (ENERGY, 1, 4, "refused 18 demand 2 supply 10"),
+                (ENERGY, 0, 4, "refused 18 demand 2 supply 19"),
+                (TIME, 1, 3, "refused 18 demand 1 supply 2"),
+            ],
+        ),
+        judged_claims(
+            Day::new(2, &[0; 6], &[(0, 2, 1, 1), (3, 6, 1, 3)]),
+            &[
+                (ENERGY, 3, 6, "accepted demand 3 supply 2"),
+                (ENERGY, 4, 6, "refused 18 demand 0 supply 2"),
+                (ENERGY, 0, 6, "accepted demand 4 supply 2"),
+            ],
+        ),
+        // no jobs, and nothing to supply
+        judged_claims(
+            paper_days()[6].clone(),
+            &[
+                (TIME, 0, 1, "refused 18 demand 0 supply 1"),
+                (ENERGY, 0, 1, "refused 18 demand 0 supply 0"),
+            ],
+        ),
+        // one job's largest demands
+        judged_claims(
+            Day::new(65535, &[255; 2], &[(0, 2, 1440, 255)]),
+            &[
+                (TIME, 0, 2, "accepted demand 1440 supply 2"),
+                (ENERGY, 0, 2, "accepted demand 367200 supply 66045"),
+                (ENERGY, 0, 1, "refused 18 demand 0 supply 65790"),
+            ],
+        ),
+        // demand above 65,535, which in 16 bits would be small
+        judged_claims(
+            Day::new(300, &[0; 2], &[(0, 2, 258, 255)]),
+            &[(ENERGY, 0, 2, "accepted demand 65790 supply 300")],
+        ),
+        // supply above 65,535: 65,790 against 65,790, one more and one less
+        judged_claims(
+            Day::new(65535, &[255, 0], &[(0, 2, 258, 255)]),
+            &[(ENERGY, 0, 2, "refused 18 demand 65790 supply 65790")],
+        ),
+        judged_claims(
+            Day::new(65535, &[255, 0], &[(0, 2, 258, 255), (0, 1, 1, 1)]),
+            &[(ENERGY, 0, 2, "accepted demand 65791 supply 65790")],
+        ),
+        judged_claims(
+            Day::new(65535, &[255, 1], &[(0, 2, 258, 255)]),
+            &[(ENERGY, 0, 2, "refused 18 demand 65790 supply 65791")],
+        ),
+        // the largest demands there are: 64 jobs
+        judged_claims(
+            Day::new(65535, &[0], &[(0, 1, 1440, 255); 64]),
+            &[
+                (TIME, 0, 1, "accepted demand 92160 supply 1"),
+                (ENERGY, 0, 1, "accepted demand 23500800 supply 65535"),
+            ],
+        ),
+        // the largest supply there is, equal to its demand
+        judged_claims(
+            Day::new(65535, &[255; 1440], &[(0, 1440, 1440, 255), (0, 1440, 257, 255)]),
+            &[(ENERGY, 0, 1440, "refused 18 demand 432735 supply 432735")],
+        ),
+    ]
+}
+
+/// Kinds, starts and ends for a day of so many slots that are none, or that would be another's
+/// if a number were cut to 8, 16 or 32 bits.
+fn odd_claims(slots: u64) -> Vec<Claim> {
+    let mut claims = Vec::new();
+    let top = u64::MAX;
+    let cuts: [u64; 4] = [1 << 8, 1 << 16, 1 << 32, 1 << 63];
+    for kind in [0, 1, 2, 3, 255, top, top - 1] {
+        claims.push(Claim { kind, start: 0, end: slots });
+    }
+    for cut in cuts {
+        for kind in [cut, cut + 1] {
+            claims.push(Claim { kind, start: 0, end: slots });
+        }
+    }
+    for kind in [TIME, ENERGY] {
+        let mut add = |start: u64, end: u64| claims.push(Claim { kind, start, end });
+        // start equal to end, start above end, end slots and slots + 1
+        add(0, 0);
+        add(1, 1);
+        add(slots, slots);
+        add(1, 0);
+        add(slots, 0);
+        add(slots - 1, slots);
+        add(slots - 1, slots + 1);
+        add(0, slots + 1);
+        add(slots, slots + 1);
+        add(slots + 1, slots + 1);
+        add(slots + 1, slots);
+        add(slots + 1, slots + 2);
+        // numbers that would fit if they were cut
+        for cut in cuts {
+            add(0, cut);
+            add(0, cut + slots);
+            add(cut, slots);
+            add(cut, cut + slots);
+        }
+        add(0, top);
+        add(top, slots);
+        add(top, top);
+        add(top, 0);
+        add(top - 1, top);
+    }
+    // nothing of it is right
+    claims.push(Claim { kind: top, start: top, end: top });
+    claims.push(Claim { kind: 2, start: slots, end: 0 });
+    claims
+}
+
+/// Every interval of the day in both kinds.
+fn all_claims(day: &Day) -> Vec<Claim> {
+    let mut claims = Vec::new();
+    for start in 0..day.slots() as u64 {
+        for end in start + 1..=day.slots() as u64 {
+            claims.push(Claim { kind: TIME, start, end });
+            claims.push(Claim { kind: ENERGY, start, end });
+        }
+    }
+    claims
+}
+
+/// Of a day's intervals in each kind, the first and the last with demand one below supply,
+/// equal to it, one above and above at all, where there is demand; and the searched interval in
+/// both kinds.
+fn claims_at_edge(day: &Day) -> Vec<Claim> {
+    let table = day.table();
+    let mut claims = Vec::new();
+    for kind in [TIME, ENERGY] {
+        let mut add_ends = |fits: &dyn Fn(Weighed) -> bool| {
+            let mut fitting = all_claims(day);
+            fitting.retain(|claim| {
+                let weighed = judge_claim_table(&table, &day.harvest, *claim).unwrap();
+                claim.kind == kind && weighed.demand > 0 && fits(weighed)
+            });
+            claims.extend(fitting.first());
+            claims.extend(fitting.last());
+        };
+        for above in [-1, 0, 1] {
+            add_ends(&|weighed| weighed.demand - weighed.supply == above);
+        }
+        add_ends(&|weighed| weighed.accepted);
+    }
+    if let Some(overload) = search_overload(&table, &day.harvest) {
+        let (start, end) = (overload.start as u64, overload.end as u64);
+        claims.push(Claim { kind: TIME, start, end });
+        claims.push(Claim { kind: ENERGY, start, end });
+    }
+    claims
+}
+
+/// The plan of the run, whether or not an interval is overloaded.
+fn run_plan(day: &Day) -> Vec<u8> {
+    run(&day.table(), &day.harvest).iter().map(|slot| plan_byte(slot.0)).collect()
+}
+
+/// The plan with one byte changed, slot by slot: to each other job's number and idle.
+fn changed_plans(day: &Day, plan: &[u8]) -> Vec<Vec<u8>> {
+    let mut plans = Vec::new();
+    for slot in 0..plan.len() {
+        for byte in (0..day.jobs.len() as u8).chain([IDLE_BYTE]) {
+            if byte != plan[slot] {
+                plans.push(with_byte(plan, slot, byte));
+            }
+        }
+    }
+    plans
+}
+
+/// The plan with one byte that is no job's number, slot by slot: the job count, 64 and 254.
+fn plans_with_no_job(day: &Day, plan: &[u8]) -> Vec<Vec<u8>> {
+    let mut plans = Vec::new();
+    for slot in 0..plan.len() {
+        for byte in [day.jobs.len() as u8, 64, 254] {
+            plans.push(with_byte(plan, slot, byte));
+        }
+    }
+    plans
+}
+
+/// Idle throughout; too short by one, too long by one with idle or a job, and empty.
+fn idle_and_odd_lengths(plan: &[u8]) -> Vec<Vec<u8>> {
+    vec![
+        vec![IDLE_BYTE; plan.len()],
+        plan[..plan.len() - 1].to_vec(),
+        [plan, &[IDLE_BYTE][..]].concat(),
+        [plan, &[0][..]].concat(),
+        vec![],
+    ]
+}
+
+/// The plan with two neighbours changed about: much of it is another planner's plan.
+fn swapped_plans(plan: &[u8]) -> Vec<Vec<u8>> {
+    let mut plans = Vec::new();
+    for slot in 1..plan.len() {
+        let mut plan = plan.to_vec();
+        plan.swap(slot - 1, slot);
+        plans.push(plan);
+    }
+    plans
+}
+
+/// Every plan of so many slots over these bytes; for few slots.
+fn all_plans(slots: i64, bytes: &[u8]) -> Vec<Vec<u8>> {
+    let mut plans: Vec<Vec<u8>> = vec![vec![]];
+    for _ in 0..slots {
+        let mut longer = Vec::new();
+        for plan in plans {
+            for byte in bytes {
+                longer.push([&plan[..], &[*byte][..]].concat());
+            }
+        }
+        plans = longer;
+    }
+    plans
+}
+
+fn is_accepted(day: &Day, plan: &[u8]) -> bool {
+    judge_plan_table(&day.table(), &day.harvest, plan) == Ok(())
+}
+
+/// Some interval of the day is overloaded in that kind.
+fn has_overload(day: &Day, kind: Kind) -> bool {
+    all_claims(day).into_iter().any(|claim| {
+        let weighed = judge_claim_table(&day.table(), &day.harvest, claim).unwrap();
+        weighed.kind == kind && weighed.accepted
+    })
+}
+
+/// The i-th of a run of small days in which every sort and answer has its turn.
+fn small_day_in_turn(dice: &mut Dice, i: usize) -> Day {
+    let small = |day: &Day| day.slots() <= 5 && day.jobs.len() >= 1 && day.jobs.len() <= 3;
+    let time = |day: &Day| has_overload(day, Kind::Time);
+    let energy = |day: &Day| has_overload(day, Kind::Energy);
+    let met = |day: &Day| day.jobs.len() > 1 && day.answer() == Answer::Met;
+    match i % 10 {
+        0 => day_with(dice, random_day, |day| small(day) && met(day)),
+        1 => day_with(dice, even_day, |day| small(day) && met(day)),
+        2 => day_with(dice, tied_day, |day| small(day) && met(day)),
+        3 => day_with(dice, random_day, |day| small(day) && shows(day, "saving")),
+        4 => day_with(dice, random_day, |day| small(day) && is_undecided(day)),
+        5 => day_with(dice, random_day, |day| small(day) && time(day) && !energy(day)),
+        6 => day_with(dice, even_day, |day| small(day) && energy(day) && !time(day)),
+        7 => day_with(dice, random_day, |day| small(day) && energy(day) && time(day)),
+        8 => day_with(dice, wide_day, |day| small(day) && met(day)),
+        _ => day_with(dice, random_day, |day| small(day) && met(day) && shows(day, "full")),
+    }
+}
+
+/// A small day that the run leaves undecided although there is a plan, with such a plan.
+fn undecided_with_plan(dice: &mut Dice) -> (Day, Vec<u8>) {
+    loop {
+        let day = small_day_in_turn(dice, 4);
+        let bytes: Vec<u8> = (0..day.jobs.len() as u8).chain([IDLE_BYTE]).collect();
+        let mut plans = all_plans(day.slots(), &bytes).into_iter();
+        if let Some(plan) = plans.find(|plan| is_accepted(&day, plan)) {
+            return (day, plan);
+        }
+    }
+}
+
+/// Evidence on the paper's days: plans of the run and beside it, and every interval.
+fn add_judged_days(file: &mut CaseFile) {
+    for day in paper_days() {
+        let plan = run_plan(&day);
+        let mut plans = vec![plan.clone()];
+        plans.extend(changed_plans(&day, &plan));
+        plans.extend(idle_and_odd_lengths(&plan));
+        plans.extend(swapped_plans(&plan));
+        for plan in plans {
+            file.judge_sheet(&plan, &day.sheet());
+            file.judge_table(&plan, &day_payload(&day));
+        }
+        for plan in plans_with_no_job(&day, &plan) {
+            file.judge_in_turn(&plan, &day);
+        }
+        for claim in all_claims(&day) {
+            file.claim_in_turn(claim, &day);
+        }
+    }
+    let days = paper_days();
+    for (day, plan) in [(&days[0], &DAY_9_ACCEPTED[..]), (&days[0], &DAY_9_REFUSED[..])] {
+        file.judge_sheet(plan, &day.sheet());
+        file.judge_table(plan, &day_payload(day));
+    }
+    file.judge_sheet(&DAY_10_PLAN, &days[4].sheet());
+    file.judge_table(&DAY_10_PLAN, &day_payload(&days[4]));
+    // every byte there is in one slot
+    let day = Day::new(2, &[0, 1], &[(0, 2, 1, 1), (1, 2, 1, 1)]);
+    for byte in 0..=255 {
+        file.judge_sheet(&[0, byte], &day.sheet());
+    }
+}
+
+/// Evidence made by hand, on the sheet and on the table.
+fn add_evidence_by_hand(file: &mut CaseFile) {
+    for JudgedPlans { day, plans } in plans_by_hand() {
+        for (plan, _) in plans {
+            // the long ones in turn
+            if plan.len() < 10 {
+                file.judge_sheet(&plan, &day.sheet());
+                file.judge_table(&plan, &day_payload(&day));
+            } else {
+                file.judge_in_turn(&plan, &day);
+            }
+        }
+    }
+    for JudgedClaims { day, claims } in claims_by_hand() {
+        for (claim, _) in claims {
+            if day.slots() < 10 && day.jobs.len() < 10 {
+                file.claim_sheet(claim, &day.sheet());
+                file.claim_table(claim, &day_payload(&day));
+            } else {
+                file.claim_in_turn(claim, &day);
+            }
+        }
+    }
+    // an energy overload and a time overload over the whole day
+    for claim in odd_claims(4) {
+        file.claim_sheet(claim, &paper_days()[1].sheet());
+    }
+    for claim in odd_claims(2) {
+        file.claim_table(claim, &day_payload(&paper_days()[5]));
+    }
+}
+
+/// 1 to 6 come before anything that plan or claim could be refused for.
+fn add_judged_refusals(file: &mut CaseFile) {
+    // for the good ones of these sheets and tables: accepted, 12, 11, 11 and 16
+    let plans: [&[u8]; 5] = [&[0, 1, 2, 255], &[0, 9, 2, 255], &[0, 1, 2], &[], &[255; 4]];
+    // and 18, 17 by the kind, by the start and by the end, and 18
+    let claim = |kind, start, end| Claim { kind, start, end };
+    let claims = [
+        claim(TIME, 0, 4),
+        claim(2, 0, 4),
+        claim(ENERGY, 3, 3),
+        claim(TIME, 0, u64::MAX),
+        claim(ENERGY, 1, 2),
+    ];
+    for (i, sheet) in telling_sheets().iter().enumerate() {
+        file.judge_sheet(plans[i % 5], sheet);
+        file.claim_sheet(claims[i % 5], sheet);
+    }
+    for (i, table) in telling_tables().iter().enumerate() {
+        file.judge_table(plans[i % 5], table);
+        file.claim_table(claims[i % 5], table);
+    }
+    // all five on a good one; a place beyond the last job is no job's number
+    let (good, fewer) = (&telling_tables()[0], &telling_tables()[17]);
+    for i in 0..5 {
+        file.judge_table(plans[i], good);
+        file.claim_table(claims[i], good);
+        file.judge_table(plans[i], fewer);
+    }
+    // the limits of jobs
+    let limits = limit_sheets();
+    file.judge_sheet(&[63, 0, 64], &limits[0]);
+    file.judge_sheet(&[63, 0, 64], &limits[1]);
+    file.claim_sheet(claim(TIME, 0, 3), &limits[1]);
+    file.claim_sheet(claim(2, 0, 3), &limits[2]);
+}
+
+/// Random evidence: small days with plans beside the run's, claims at the edge, damaged sheets
+/// and odd tables.
+fn add_random_evidence(file: &mut CaseFile, dice: &mut Dice) {
+    for i in 0..20 {
+        let day = small_day_in_turn(dice, i);
+        let plan = run_plan(&day);
+        let mut plans = vec![plan.clone()];
+        plans.extend(changed_plans(&day, &plan));
+        // one of the three in each of most slots
+        plans.extend(plans_with_no_job(&day, &plan).into_iter().step_by(4));
+        // idle, and one byte too few or too many
+        plans.extend(idle_and_odd_lengths(&plan).into_iter().take(3));
+        for plan in plans {
+            file.judge_in_turn(&plan, &day);
+        }
+    }
+    for i in 0..40 {
+        let day = small_day_in_turn(dice, i);
+        let plan = run_plan(&day);
+        file.judge_in_turn(&plan, &day);
+        for plan in swapped_plans(&plan) {
+            file.judge_in_turn(&plan, &day);
+        }
+    }
+    for _ in 0..8 {
+        let (day, plan) = undecided_with_plan(dice);
+        file.judge_in_turn(&run_plan(&day), &day);
+        file.judge_in_turn(&plan, &day);
+        for plan in swapped_plans(&plan) {
+            file.judge_in_turn(&plan, &day);
+        }
+    }
+    for i in 0..10 {
+        let day = day_in_turn(dice, i);
+        file.judge_in_turn(&run_plan(&day), &day);
+        for claim in claims_at_edge(&day) {
+            file.claim_in_turn(claim, &day);
+        }
+    }
+    for i in 0..40 {
+        // a sort in turn, or overloaded in time, in energy or in both
+        let day = small_day_in_turn(dice, if i % 2 == 0 { i / 2 } else { 5 + i / 2 % 3 });
+        for claim in claims_at_edge(&day) {
+            file.claim_in_turn(claim, &day);
+        }
+    }
+    // every interval of three days that are overloaded
+    for i in 5..8 {
+        let day = small_day_in_turn(dice, i);
+        for claim in all_claims(&day) {
+            file.claim_in_turn(claim, &day);
+        }
+    }
+    for i in 0..40 {
+        let day = small_day_in_turn(dice, i);
+        let plan = if dice.one_in(3) { dice.bytes(4) } else { run_plan(&day) };
+        let (start, end) = (dice.below(4) as u64, dice.below(8) as u64);
+        let claim = Claim { kind: dice.below(3) as u64, start, end };
+        let sheet = if i % 4 == 3 { garbage(dice) } else { damaged_sheet(dice, &day.sheet()) };
+        file.judge_sheet(&plan, &sheet);
+        file.claim_sheet(claim, &sheet);
+        let table = odd_table(dice, &day);
+        file.judge_table(&plan, &table);
+        file.claim_table(claim, &table);
+    }
+}
+
+/// 64 jobs and 1,440 slots: the plan of the run, and the whole day in both kinds.
+fn add_large_evidence(file: &mut CaseFile, dice: &mut Dice) {
+    let light = |dice: &mut Dice| large_day(dice, 14);
+    let met = day_with(dice, light, |day| day.answer() == Answer::Met);
+    let largest = largest_example();
+    file.judge_table(&run_plan(&met), &day_payload(&met));
+    file.judge_sheet(&run_plan(&largest), &largest.sheet());
+    let whole = |kind: u64| Claim { kind, start: 0, end: 1440 };
+    file.claim_sheet(whole(TIME), &largest.sheet());
+    file.claim_table(whole(ENERGY), &day_payload(&largest));
+}
+
+fn make_judged_cases(file: &mut CaseFile) {
+    let mut dice = Dice { state: 1611 };
+    add_judged_days(file);
+    add_evidence_by_hand(file);
+    add_judged_refusals(file);
+    add_random_evidence(file, &mut dice);
+    add_large_evidence(file, &mut dice);
 }
 
 // ------------------------------------------------------------------------------------------
@@ -1796,6 +2971,18 @@ fn test_paper_days() {
     }
 }
 
+/// Days 9 to 11.
+fn test_paper_evidence() {
+    let days = paper_days();
+    let (day_1, day_5) = (days[0].sheet(), days[4].sheet());
+    let judged = |sheet: &[u8], plan: &[u8]| judge_line(judge_plan_sheet(sheet, plan));
+    assert_eq!(judged(&day_1, &DAY_9_ACCEPTED), "judge accepted");
+    assert_eq!(judged(&day_1, &DAY_9_REFUSED), "judge refused 15 slot 1");
+    assert_eq!(judged(&day_5, &DAY_10_PLAN), "judge refused 16 job 0");
+    let day_11 = judge_claim_sheet(&day_1, Claim { kind: 1, start: 0, end: 4 });
+    assert_eq!(claim_line(day_11), "claim refused 18 demand 2 supply 2");
+}
+
 fn test_day_program() {
     assert_eq!(day_listing(&[]), "refused 1\n");
     assert_eq!(day_listing(&vec![0; 4096]), "refused 2\n");
@@ -1816,10 +3003,10 @@ fn test_largest_example() {
 fn test_limits() {
     let answers: Vec<_> = limit_sheets()
         .iter()
-        .map(|sheet| read_sheet(sheet).err().map(|refusal| (refusal.number, refusal.record)))
+        .map(|sheet| read_sheet(sheet).map_or_else(refusal_words, |_| "read".to_string()))
         .collect();
-    let (three, five, six) = (Some((3, None)), Some((5, Some(0))), Some((6, Some(63))));
-    assert_eq!(answers, [None, three, six, None, five, three]);
+    let (three, five, six) = ("refused 3", "refused 5 record 0", "refused 6 record 63");
+    assert_eq!(answers, ["read", three, six, "read", five, three]);
 }
 
 /// The search against every pair of slots, the round trips, and even days that are not
@@ -1841,12 +3028,175 @@ fn test_random_days() {
     }
 }
 
+/// What was made by hand gets what it was made for, on the sheet and on the table.
+fn test_evidence_by_hand() {
+    for JudgedPlans { day, plans } in plans_by_hand() {
+        for (plan, words) in plans {
+            let line = format!("judge {words}");
+            let on_sheet = judge_plan_sheet(&day.sheet(), &plan);
+            let on_table = judge_plan_table(&day.table(), &day.harvest, &plan);
+            assert_eq!(judge_line(on_sheet), line, "{day:?} {plan:?}");
+            assert_eq!(judge_line(on_table), line, "{day:?} {plan:?}");
+        }
+    }
+    for JudgedClaims { day, claims } in claims_by_hand() {
+        for (claim, words) in claims {
+            let line = format!("claim {words}");
+            let on_sheet = judge_claim_sheet(&day.sheet(), claim);
+            let on_table = judge_claim_table(&day.table(), &day.harvest, claim);
+            assert_eq!(claim_line(on_sheet), line, "{day:?} {claim:?}");
+            assert_eq!(claim_line(on_table), line, "{day:?} {claim:?}");
+        }
+    }
+}
+
+/// On random days: the plan of the run is accepted exactly when the answer is met, and is else
+/// refused 16; the searched interval is accepted with its demand and supply; no day has both an
+/// accepted plan and an overloaded interval; on even days one of the two holds.
+fn test_random_evidence() {
+    let mut dice = Dice { state: 11 };
+    for i in 0..20000 {
+        let day = [random_day, even_day, tied_day, wide_day][i % 4](&mut dice);
+        let plan = run_plan(&day);
+        let judged = judge_plan_sheet(&day.sheet(), &plan);
+        let accepted = judged == Ok(());
+        assert_eq!(accepted, day.answer() == Answer::Met, "{day:?}");
+        assert!(accepted || judged.unwrap_err().number == 16, "{:?}", day);
+        if let Answer::Overloaded(overload) = day.answer() {
+            let Overload { kind, start, end, demand, supply } = overload;
+            let number = if kind == Kind::Time { TIME } else { ENERGY };
+            let claim = Claim { kind: number, start: start as u64, end: end as u64 };
+            let weighed = Weighed { accepted: true, kind, start, end, demand, supply };
+            assert_eq!(judge_claim_sheet(&day.sheet(), claim), Ok(weighed), "{day:?}");
+        }
+        let overloaded = has_overload(&day, Kind::Time) || has_overload(&day, Kind::Energy);
+        assert!(!(accepted && overloaded), "{:?}", day);
+        if i % 4 == 1 {
+            assert!(accepted || overloaded, "{:?}", day);
+        }
+    }
+}
+
+/// Up to 4 slots and 2 jobs.
+fn tiny_day(dice: &mut Dice) -> Day {
+    let slots = dice.between(1, 4);
+    let mut day = Day {
+        jobs: Vec::new(),
+        capacity: dice.between(0, 4),
+        harvest: (0..slots).map(|_| dice.between(0, 2) as u8).collect(),
+    };
+    for _ in 0..dice.between(0, 2) {
+        let release = dice.below(slots);
+        let deadline = dice.between(release + 1, slots);
+        let wanted = dice.between(1, deadline - release);
+        day.jobs.push(Job { release, deadline, wanted, energy: dice.between(1, 4) });
+    }
+    day
+}
+
+/// What `evidence` says of sheets that are refused, with good evidence and with bad; and numbers
+/// as they are typed.
+fn test_evidence_program() {
+    let good = paper_days()[0].sheet();
+    let lines = [
+        (good[..11].to_vec(), "refused 1: the sheet is under 12 bytes"),
+        (with_number(&good, -2, 0), "refused 2: the sheet does not end in 45 48 (hex)"),
+        (
+            with_number(&good, SLOTS, 1441),
+            "refused 3: the sheet has more than 64 jobs, or slots 0 or above 1440",
+        ),
+        (
+            with_number(&good, TO_JOBS, 19),
+            "refused 4: the sheet's back distances or its length do not fit its jobs and slots",
+        ),
+        (
+            with_number(&good, 8, 2),
+            "refused 5 at record 1: its release is not below its deadline, \
+             or its deadline is above slots",
+        ),
+        (
+            with_byte(&good, 7, 1),
+            "refused 6 at record 0: it wants 0 slots or above 1440, its energy is 0, \
+             or its last byte is not zero",
+        ),
+    ];
+    for (sheet, line) in lines {
+        assert_eq!(plan_evidence(&sheet, &DAY_9_ACCEPTED), line);
+        assert_eq!(plan_evidence(&sheet, &[]), line);
+        assert_eq!(claim_evidence(&sheet, Claim { kind: 1, start: 0, end: 4 }), line);
+        assert_eq!(claim_evidence(&sheet, Claim { kind: 2, start: 4, end: 0 }), line);
+    }
+    assert_eq!(decimal("007"), Some(7));
+    assert_eq!(decimal("18446744073709551614"), Some(u64::MAX - 1));
+    for large in ["18446744073709551615", "18446744073709551616", "184467440737095516150"] {
+        assert_eq!(decimal(large), Some(u64::MAX));
+    }
+    for word in ["", " ", "-1", "+1", "1 ", "x", "0x1", "1.0"] {
+        assert_eq!(decimal(word), None);
+    }
+}
+
+/// Demand 3 by itself, of a plan that has a byte for each slot: every job gets its slots inside
+/// its window, no more and no fewer, every slot is idle or names a job, and no busy slot lacks
+/// charge, the reservoir starting full.
+fn is_acceptable(day: &Day, plan: &[u8]) -> bool {
+    let times = |bytes: &[u8], number: usize| {
+        bytes.iter().filter(|byte| **byte as usize == number).count() as i64
+    };
+    let every_job_gets_its_slots = day.jobs.iter().enumerate().all(|(number, job)| {
+        let window = &plan[job.release as usize..job.deadline as usize];
+        times(window, number) == job.wanted && times(plan, number) == job.wanted
+    });
+    let every_slot_is_idle_or_names_a_job =
+        plan.iter().all(|byte| *byte == 255 || (*byte as usize) < day.jobs.len());
+    every_job_gets_its_slots
+        && every_slot_is_idle_or_names_a_job
+        && (0..plan.len()).all(|slot| {
+            charge_before(day, plan, slot) + day.harvest[slot] as i64 >= cost(day, plan[slot])
+        })
+}
+
+/// What a plan byte spends; idle spends nothing.
+fn cost(day: &Day, byte: u8) -> i64 {
+    if byte == 255 { 0 } else { day.jobs[byte as usize].energy }
+}
+
+/// The charge before a slot, from the slots before it.
+fn charge_before(day: &Day, plan: &[u8], slot: usize) -> i64 {
+    if slot == 0 {
+        return day.capacity;
+    }
+    let before = slot - 1;
+    let charge = charge_before(day, plan, before) + day.harvest[before] as i64;
+    (charge - cost(day, plan[before])).min(day.capacity)
+}
+
+/// On tiny days, every plan over 0, 1 and idle: accepted exactly when acceptable, and never
+/// beside an overloaded interval.
+fn test_tiny_days() {
+    let mut dice = Dice { state: 13 };
+    for _ in 0..5000 {
+        let day = tiny_day(&mut dice);
+        let overloaded = has_overload(&day, Kind::Time) || has_overload(&day, Kind::Energy);
+        for plan in all_plans(day.slots(), &[0, 1, 255]) {
+            let accepted = is_accepted(&day, &plan);
+            assert_eq!(accepted, is_acceptable(&day, &plan), "{day:?} {plan:?}");
+            assert!(!(accepted && overloaded), "{:?} {:?}", day, plan);
+        }
+    }
+}
+
 fn self_test() {
     test_paper_days();
+    test_paper_evidence();
     test_day_program();
     test_largest_example();
     test_limits();
     test_random_days();
+    test_evidence_by_hand();
+    test_evidence_program();
+    test_random_evidence();
+    test_tiny_days();
 }
 
 // ------------------------------------------------------------------------------------------
@@ -1863,6 +3213,9 @@ fn print(bytes: &[u8]) {
     std::io::stdout().write_all(bytes).expect("standard output can be written");
 }
 
+const USE: &str = "use: second day | cases | make [sheets | plans | judged] | example NAME | \
+                   evidence ARGUMENTS | evidence-table | self-test";
+
 fn main() {
     let words: Vec<String> = std::env::args().skip(1).collect();
     match words.iter().map(String::as_str).collect::<Vec<_>>()[..] {
@@ -1871,13 +3224,19 @@ fn main() {
         ["make"] => print(&make_cases().bytes_of(ALL_KINDS)),
         ["make", "sheets"] => print(&make_cases().bytes_of(SHEETS)),
         ["make", "plans"] => print(&make_cases().bytes_of(PLANS)),
+        ["make", "judged"] => print(&make_cases().bytes_of(JUDGED)),
         ["example", name] => print(&example(name)),
+        ["evidence", ref words @ ..] => print(format!("{}\n", evidence_line(words)).as_bytes()),
+        ["evidence-table"] => {
+            let rows = String::from_utf8(standard_input()).expect("rows of text");
+            print(evidence_table(&rows).as_bytes())
+        }
         ["self-test"] => {
             self_test();
             print(b"ok\n");
         }
         _ => {
-            eprintln!("use: second day | cases | make [sheets | plans] | example NAME | self-test");
+            eprintln!("{USE}");
             std::process::exit(2);
         }
     }

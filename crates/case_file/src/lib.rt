@@ -3,7 +3,7 @@
 use sheet::Job;
 use sheet::Refusal;
 use sheet::Table;
-ghost use Prim.Native.Nat.{_≤_};
+ghost use Prim.Native.Nat.{_≤_, _<_};
 
 // The longest case file that is taken, in bytes.
 pub const LONGEST: usize = 131072;
@@ -22,6 +22,12 @@ const HEAD: usize = 3;
 const JOBS_FROM: usize = 7;
 
 const JOB: usize = 7;
+
+// A number of a claim has 8 bytes.
+const LONG: usize = 8;
+
+// A plan stands behind its length.
+const PLAN_FROM: usize = 2;
 
 const NO_JOB: Job = Job {
     release: 0,
@@ -53,6 +59,26 @@ pub fn number_at(bytes: &[u8], at: usize) -> u16 {
     let low = wide(bytes[at]);
     let high = wide(bytes[at + 1]);
     low + 256 * high
+}
+
+// The number of which these are the lower and the higher two bytes.
+fn joined(low: u16, high: u16) -> u64
+    ensures { λ r. ⌜ r < 4294967296 ⌝ }
+{
+    low as u64 + 65536 * high as u64
+}
+
+// The number in the eight bytes from a place on, the lowest first; 0 where the bytes do not hold all.
+pub fn long_at(bytes: &[u8], at: usize) -> u64 {
+    if bytes.len() < LONG {
+        return 0;
+    }
+    if bytes.len() - LONG < at {
+        return 0;
+    }
+    let low = joined(number_at(bytes, at), number_at(bytes, at + 2));
+    let high = joined(number_at(bytes, at + 4), number_at(bytes, at + 6));
+    low + 4294967296 * high
 }
 
 // The bytes from a place on; none where there are not so many.
@@ -164,6 +190,32 @@ pub fn harvest_in(bytes: &[u8]) -> &[u8] {
     behind(bytes, jobs_to(bytes) + 2)
 }
 
+// The place behind the plan that a payload starts with: its length and that many bytes.
+fn plan_to(bytes: &[u8]) -> usize
+    ensures { λ r. ⌜ 2 ≤ r ⌝ }
+{
+    PLAN_FROM + number_at(bytes, 0) as usize
+}
+
+// Whether a payload starts with a plan.
+pub fn has_plan(bytes: &[u8]) -> bool {
+    plan_to(bytes) <= bytes.len()
+}
+
+// The plan that a payload starts with; none where it does not.
+pub fn plan_in(bytes: &[u8]) -> &[u8] {
+    let to = plan_to(bytes);
+    if bytes.len() < to {
+        return &bytes[..0];
+    }
+    &bytes[PLAN_FROM..to]
+}
+
+// What stands behind that plan.
+pub fn behind_plan(bytes: &[u8]) -> &[u8] {
+    behind(bytes, plan_to(bytes))
+}
+
 // The sum of a run of numbers, taken one further: it starts with 1.
 pub fn summed(sum: u16, number: u16) -> u16 {
     ((sum as u32 * 31 + number as u32) % 65521) as u16
@@ -182,8 +234,7 @@ pub fn sum_of_bytes(bytes: &[u8]) -> u16 {
 
 // Prints a refusal's number, and the record that 5 and 6 name.
 pub fn print_refusal(why: Refusal) {
-    print::word(b"refused ");
-    print::number(sheet::number(why) as usize);
+    print::refused(sheet::number(why));
     match why {
         Refusal::Window(k) | Refusal::Work(k) => {
             print::word(b" record ");

@@ -27,7 +27,7 @@ use Rattle.demand.specs.declared.Kind.the-variants.{Time, Energy}
 use Rattle.judge.specs.Evidence.{AcceptablePlan, AcceptableClaim}
 use Rattle.judge.specs.Judge.{planSays, planOnTable, planOnSheet, kindOf, claimFault, claimSays, claimOnTable, claimOnSheet, sumsOf, noSums, sumsBy, sumsOnTable, sumsOnSheet}
 use Rattle.judge.specs.Promise.{planAnswered, claimAnswered, sumsTold, JudgesTablePlan, JudgesSheetPlan, JudgesTableClaim, JudgesSheetClaim}
-use Rattle.judge.specs.Numbers.{faultSays, noIntervalNumber, notOverloadedNumber}
+use Rattle.judge.specs.Numbers.{faultSays, numberOf, noIntervalNumber, notOverloadedNumber}
 use Rattle.judge.specs.Stated.{PlanGivenFirst, ClaimStated, NotOverloadedStated, SumsAre}
 use Rattle.judge.specs.declared.PlanFault.{PlanFault}
 use Rattle.judge.specs.declared.PlanFault.the-variants.{WrongLength, NoJob, OutsideWindow, HasAllSlots, LacksCharge, LacksSlots}
@@ -43,13 +43,7 @@ use Rattle.judge.proofs.Promised.{claim-in-day}
 
 -- ---- numbers: 1 to 6 are the sheet's, above 10 the judge's own
 
-numberOf : Check → ℕ
-numberOf (gives x) = 0
-numberOf (refuses n) = n
-numberOf (refusesAt n place) = n
-
 refusal-small : (r : Refusal) → (1 ≤ numberOf (refusalSays r)) × (numberOf (refusalSays r) ≤ 6)
-unfolding numberOf
 refusal-small Short = (omega arith, omega arith)
 refusal-small Mark = (omega arith, omega arith)
 refusal-small Counts = (omega arith, omega arith)
@@ -58,7 +52,6 @@ refusal-small (Window k) = (omega arith, omega arith)
 refusal-small (Work k) = (omega arith, omega arith)
 
 fault-large : (f : PlanFault) → 11 ≤ numberOf (faultSays f)
-unfolding numberOf
 fault-large WrongLength = omega arith
 fault-large (NoJob i) = omega arith
 fault-large (OutsideWindow i) = omega arith
@@ -80,7 +73,6 @@ own-fault : (f : PlanFault) → Own (faultSays f)
 own-fault f = own-numberOf (faultSays f) (fault-large f)
 
 own-refuses : (n : ℕ) → 11 ≤ n → Own (refuses n)
-unfolding numberOf
 own-refuses n h = own-numberOf (refuses n) h
 
 -- ---- the check before the judge's own answers: it gives leave exactly when G, and each of 1 to 6 exactly when it is stated and nothing earlier is
@@ -294,10 +286,10 @@ kind-of-number number h =
     ]
 
 -- 17 does not apply exactly to an interval of the day, claimed in one of the two kinds
-record IsInterval (slots number from to : ℕ) : Type 0 where
-  a-kind : number ≤ 1
-  in-order : from < to
-  in-day : to ≤ slots
+pub record IsInterval (slots number from to : ℕ) : Type 0 where
+  pub a-kind : number ≤ 1
+  pub in-order : from < to
+  pub in-day : to ≤ slots
 
 -- 17 is stated exactly of what is none
 stated-words : (slots number from to : ℕ) → (IsInterval slots number from to → ⊥) ↔ ClaimStated slots number from to
@@ -322,7 +314,7 @@ stated-words slots number from to = (
       ⊎-elim (λ w. let zero-is = w .0 in let one-is = w .1 in omega arith) (⊎-elim (λ h. omega arith) (λ h. omega arith)) stated),
 )
 
-is-interval : (slots number from to : ℕ) → (ClaimStated slots number from to → ⊥) ↔ IsInterval slots number from to
+pub is-interval : (slots number from to : ℕ) → (ClaimStated slots number from to → ⊥) ↔ IsInterval slots number from to
 is-interval slots number from to = (
   (λ none.
       elim (decLe number 1) [

@@ -20,6 +20,12 @@ abbrev pub _applies-when_ : PlanFault → Bool → Check
 f applies-when true = faultSays f
 f applies-when false = gives tt
 
+-- the number alone; 0 where nothing is refused
+abbrev pub numberOf : Check → ℕ
+numberOf (gives x) = 0
+numberOf (refuses n) = n
+numberOf (refusesAt n place) = n
+
 -- a claim's two refusals
 abbrev pub noIntervalNumber : ℕ
 noIntervalNumber = 17

@@ -17,7 +17,8 @@ ghost use Rattle.sheet.specs.Table.{mostJobs, mostSlots};
 ghost use Rattle.sheet.specs.WellFormed.{GoodTable};
 ghost use Rattle.demand.specs.Demand.{demandOf};
 ghost use Rattle.judge.specs.Judge.{jobSays, slotsSay, planSays, claimFault, kindOf, sumsOf};
-ghost use Rattle.judge.specs.Promise.{planAnswered, JudgesTablePlan, JudgesSheetPlan, JudgesTableClaim, JudgesSheetClaim};
+ghost use Rattle.judge.specs.Numbers.{faultSays, numberOf};
+ghost use Rattle.judge.specs.Promise.{planAnswered, claimAnswered, JudgesTablePlan, JudgesSheetPlan, JudgesTableClaim, JudgesSheetClaim};
 ghost use Rattle.judge.specs.Steps.{findingSays, endsBy, shareOf, ClaimJudged};
 
 // Why a plan is refused, with the slot, and for 16 the job, that document 01 names.
@@ -63,6 +64,32 @@ pub enum JudgedClaim {
     NotOverloaded(Sums),
     // The demand is above the supply.
     Accepted(Sums),
+}
+
+// The number in document 01 of a plan's refusal.
+pub fn number(fault: PlanFault) -> u8
+    ensures { λ r. ⌜ r ≡ numberOf (faultSays fault) ⌝ }
+{
+    match fault {
+        PlanFault::WrongLength => 11,
+        PlanFault::NoJob(_) => 12,
+        PlanFault::OutsideWindow(_) => 13,
+        PlanFault::HasAllSlots(_) => 14,
+        PlanFault::LacksCharge(_) => 15,
+        PlanFault::LacksSlots(_) => 16,
+    }
+}
+
+// The number in document 01 of the answer to a claim; 0 where it is accepted.
+pub fn claim_number(answer: JudgedClaim) -> u8
+    ensures { λ r. ⌜ r ≡ numberOf (claimAnswered answer) ⌝ }
+{
+    match answer {
+        JudgedClaim::Refused(why) => sheet::number(why),
+        JudgedClaim::NoInterval => 17,
+        JudgedClaim::NotOverloaded(_) => 18,
+        JudgedClaim::Accepted(_) => 0,
+    }
 }
 
 // What is found of a part of a plan.
@@ -188,9 +215,9 @@ pub fn plan_on_sheet(bytes: &[u8], plan: &[u8]) -> JudgedPlan
 }
 
 // The kinds of a claim, by their numbers.
-const TIME: u64 = 0;
+pub const TIME: u64 = 0;
 
-const ENERGY: u64 = 1;
+pub const ENERGY: u64 = 1;
 
 // 17 applies: the kind is neither 0 nor 1, the start is not below the end, or the end is above slots.
 fn claim_fault(slots: u16, kind: u64, start: u64, end: u64) -> bool

@@ -10,3 +10,9 @@ pub fn word(text: &[u8]) {
 pub fn number(n: usize) {
     io::print_decimal(STANDARD_OUTPUT, n as u64);
 }
+
+// Prints `refused` and a refusal's number.
+pub fn refused(n: u8) {
+    word(b"refused ");
+    number(n as usize);
+}

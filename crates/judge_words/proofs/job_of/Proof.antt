@@ -1,0 +1,16 @@
+-- A job of a table that was read has a deadline.
+use borrow.Author.Needs.{needs}
+use Rattle.judge_words.proofs.job_of.Statement.{statement}
+use Rattle.judge_words.proofs.job_of.Tie as tie
+
+mul-job : tie.Need-mul-job
+mul-job c = search needs
+
+element-copy-out-job : tie.Need-element-copy-out-job
+element-copy-out-job c = search needs
+
+returns : tie.Need-returns
+returns c = c .before .pre .0 .windows _ (c .before .pre .1)
+
+pub job-of-spec : {M : Type 1} → statement M
+job-of-spec = tie.close (tie.spec mul-job element-copy-out-job returns)
