@@ -8,7 +8,7 @@ use mathlib.Core.Logic.{_⊎_, ⊎-elim}
 use native.Mathlib.Decide.{decLt}
 use native.Mathlib.Omega.{arith}
 use lib.Dec.{eqb}
-use Rattle.sheet.specs.Paper.{Paper, Check, gives, refuses, refusesAt, _else_}
+use Rattle.sheet.specs.Paper.{Paper, gives, refuses, refusesAt, _else_}
 use Rattle.sheet.specs.Table.{jobOf, tableSays}
 use Rattle.sheet.proofs.Order.{else-gave}
 use Rattle.sheet.proofs.Theorems.{table-accepted-exactly}

@@ -2,7 +2,7 @@
 -- latest start, and there time before energy, with demand and supply." `proofs/Theorems.antt` says in the paper's words what it finds.
 use Prim.Native.Nat.{ℕ, zero, suc}
 use mathlib.Core.List.{List}
-use mathlib.Core.Bool.{Bool, cond, _&&_, _||_}
+use mathlib.Core.Bool.{Bool, cond}
 use lib.Dec.{eqb}
 use Rattle.sheet.specs.Paper.{Paper, gives, _else_}
 use Rattle.sheet.specs.Refusals.{refusalSays}

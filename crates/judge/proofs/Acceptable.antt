@@ -1,30 +1,29 @@
 -- The tests of a plan in words, and that a plan is acceptable exactly when no refusal is stated of it.
 use Prim.Native.Nat.{ℕ, zero, suc, _+_, _-_, _≤_, _<_}
 use mathlib.Core.Path.{_≡_, refl, sym, ap, _∙_, subst}
-use mathlib.Core.Bool.{Bool, true, false, not, _&&_, _||_}
+use mathlib.Core.Bool.{Bool, true, not, _&&_}
 use mathlib.Core.List.{List}
 use mathlib.Core.Logic.{_↔_, _⊎_, inl, inr, ⊎-elim, Iff·trans}
-use native.Mathlib.Numerals.{add-one}
 use native.Mathlib.Decide.{decLt, decLe, ℕ-discrete}
 use native.Mathlib.Omega.{arith}
 use lib.Dec.{ltb, leb, eqb}
 use lib.ListN.{length}
-use borrow.Author.Tests.{lt-ltb, le-ltb, le-leb, lt-leb, eq-eqb, ne-eqb, ltb-true, ltb-false, leb-true, leb-false, eqb-false, not-true}
+use borrow.Author.Tests.{lt-ltb, le-ltb, le-leb, lt-leb, ne-eqb, ltb-true, ltb-false, leb-true, leb-false, eqb-false, not-true}
 use Rattle.sheet.specs.Paper.{gives}
 use Rattle.sheet.specs.Sums.{harvestAt}
 use Rattle.sheet.specs.Table.{idleByte, jobOf}
 use Rattle.sheet.specs.declared.Table.{Table}
 use Rattle.sheet.proofs.Exactly.{either, never-both}
-use Rattle.sheet.proofs.Theorems.{not-of, or-of, below, differs}
+use Rattle.sheet.proofs.Theorems.{below, differs}
 use Rattle.sheet.proofs.Words.{or-left, or-right, or-false, and-left, and-right, and-true}
 use Rattle.judge.specs.Evidence.{byteOf, namesJob, slotsGot, levelAt, AcceptablePlan}
 use Rattle.judge.specs.Judge.{namesNothing, outsideWindow, hasAllSlots, lacksCharge, planSays}
 use Rattle.judge.specs.Numbers.{faultSays}
-use Rattle.judge.specs.Stated.{RunsIn, planStates, planTurn, PlanGivenFirst}
+use Rattle.judge.specs.Stated.{RunsIn, planStates, PlanGivenFirst}
 use Rattle.judge.specs.declared.PlanFault.{PlanFault}
 use Rattle.judge.specs.declared.PlanFault.the-variants.{WrongLength, NoJob, OutsideWindow, HasAllSlots, LacksCharge, LacksSlots}
 use Rattle.judge.proofs.Judging.{got-none, got-more, got-here, got-not-here}
-use Rattle.judge.proofs.PlanOrder.{testAt, Applies, FirstIs, refused-exactly, accepted-when-clear}
+use Rattle.judge.proofs.PlanOrder.{testAt, Applies, refused-exactly, accepted-when-clear}
 
 at-most : (m n : ℕ) → (leb m n ≡ true) ↔ (m ≤ n)
 at-most m n = (leb-true m n, le-leb m n)

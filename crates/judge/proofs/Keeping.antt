@@ -7,11 +7,11 @@ use native.Mathlib.Omega.{arith}
 use lib.ListN.{length, getD, set, replicate, length-set}
 use lib.Seq.{getD-set-same, getD-set-other}
 use borrow.Author.Tests.{ltb-false, leb-false}
-use Rattle.sheet.specs.Paper.{Check, gives, inOrder}
+use Rattle.sheet.specs.Paper.{gives, inOrder}
 use Rattle.sheet.specs.Sums.{harvestAt}
 use Rattle.sheet.specs.Table.{mostJobs, idleByte, startLevel, jobOf}
 use Rattle.sheet.specs.declared.Table.{Table}
-use Rattle.sheet.proofs.Order.{Refuses, in-order-none, in-order-clear}
+use Rattle.sheet.proofs.Order.{in-order-none, in-order-clear}
 use Rattle.sheet.proofs.Sums.{zeros-first}
 use Rattle.judge.specs.Evidence.{byteOf, slotsGot, levelAt}
 use Rattle.judge.specs.Judge.{jobSays, slotSays, slotsSay}

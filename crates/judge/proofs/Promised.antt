@@ -1,12 +1,12 @@
 -- The judge's promises at each of its answers.
 use Prim.Native.Nat.{ℕ, _+_, _-_, _≤_, _<_}
-use mathlib.Core.Path.{_≡_, refl, sym, ap, ap₂, _∙_, subst}
+use mathlib.Core.Path.{_≡_, sym, ap, ap₂, _∙_, subst}
 use mathlib.Core.List.{List}
 use mathlib.Core.Bool.{Bool, true, false, not, _||_}
 use lib.Dec.{ltb, eqb}
 use lib.ListN.{length}
 use borrow.Author.Tests.{lt-ltb, le-ltb, eq-eqb, ne-eqb, ltb-true, ltb-false, not-false}
-use Rattle.sheet.specs.Paper.{Paper, Check, gives, refuses, _given-when_, _else_, whereGiven}
+use Rattle.sheet.specs.Paper.{Check, gives, refuses, _given-when_, _else_}
 use Rattle.sheet.specs.Refusals.{refusalSays, outcomeSays}
 use Rattle.sheet.specs.Sheet.{sheetSays, tableIn, harvestIn}
 use Rattle.sheet.specs.Sums.{harvestOf}

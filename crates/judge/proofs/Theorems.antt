@@ -1,15 +1,15 @@
 -- The theorems on the judge that are worth quoting. Each speaks of any result that a call's promise allows, so that no definition stands in between
 -- but those that say what evidence is (`specs/Evidence.antt`) and when a refusal is stated (`specs/Stated.antt`).
-use Prim.Native.Nat.{ℕ, _+_, _≤_, _<_}
+use Prim.Native.Nat.{ℕ, _≤_, _<_}
 use mathlib.Core.Path.{_≡_, refl, sym, ap, ap₂, _∙_, subst}
 use mathlib.Core.Bool.{Bool, true, false, cond, not, _||_}
 use mathlib.Core.List.{List}
 use mathlib.Core.Logic.{_↔_, _⊎_, inl, inr, ⊎-elim, Iff·trans}
 use native.Mathlib.Decide.{decLt, decLe, ℕ-discrete}
 use native.Mathlib.Omega.{arith}
-use lib.Dec.{ltb, eqb, lit<}
-use borrow.Author.Tests.{lt-ltb, le-ltb, ltb-true, ltb-false, eq-eqb, ne-eqb, eqb-true, eqb-false, not-true, not-false}
-use Rattle.sheet.specs.Paper.{Paper, Check, gives, refuses, refusesAt, _given-when_, _else_}
+use lib.Dec.{ltb, eqb}
+use borrow.Author.Tests.{lt-ltb, le-ltb, ltb-true, ltb-false, eq-eqb, ne-eqb, not-true, not-false}
+use Rattle.sheet.specs.Paper.{Check, gives, refuses, refusesAt, _given-when_, _else_}
 use Rattle.sheet.specs.Refusals.{refusalSays}
 use Rattle.sheet.specs.Sheet.{sheetFaults, sheetSays, tableIn, harvestIn}
 use Rattle.sheet.specs.Table.{tableFaults, tableSays}
@@ -19,13 +19,13 @@ use Rattle.sheet.specs.declared.Refusal.the-variants.{Short, Mark, Counts, Layo
 use Rattle.sheet.specs.declared.Table.{Table}
 use Rattle.sheet.proofs.Exactly.{either, never-both, leave-or-refusal, given-no-refusal}
 use Rattle.sheet.proofs.Order.{Refuses, else-goes-on, refusal-stays}
-use Rattle.sheet.proofs.Theorems.{not-of, or-of, below, not-below, sheet-accepted-exactly, table-accepted-exactly, call-on-sheet-refused-exactly, call-on-table-refused-exactly}
-use Rattle.sheet.proofs.Words.{or-left, or-right, or-false}
-use Rattle.demand.specs.Demand.{kindNumber, demandOf, supplyOf, Overloaded, overloaded}
+use Rattle.sheet.proofs.Theorems.{sheet-accepted-exactly, table-accepted-exactly, call-on-sheet-refused-exactly, call-on-table-refused-exactly}
+use Rattle.sheet.proofs.Words.{or-left, or-false}
+use Rattle.demand.specs.Demand.{kindNumber, overloaded}
 use Rattle.demand.specs.declared.Kind.{Kind}
 use Rattle.demand.specs.declared.Kind.the-variants.{Time, Energy}
 use Rattle.judge.specs.Evidence.{AcceptablePlan, AcceptableClaim}
-use Rattle.judge.specs.Judge.{planSays, planOnTable, planOnSheet, kindOf, claimFault, claimSays, claimOnTable, claimOnSheet, sumsOf, noSums, sumsBy, sumsOnTable, sumsOnSheet}
+use Rattle.judge.specs.Judge.{planSays, planOnTable, planOnSheet, kindOf, claimFault, claimSays, claimOnTable, claimOnSheet, sumsOf, sumsBy, sumsOnTable, sumsOnSheet}
 use Rattle.judge.specs.Promise.{planAnswered, claimAnswered, sumsTold, JudgesTablePlan, JudgesSheetPlan, JudgesTableClaim, JudgesSheetClaim}
 use Rattle.judge.specs.Numbers.{faultSays, numberOf, noIntervalNumber, notOverloadedNumber}
 use Rattle.judge.specs.Stated.{PlanGivenFirst, ClaimStated, NotOverloadedStated, SumsAre}

@@ -1,10 +1,9 @@
 -- What is weighed, job by job.
-use Prim.Native.Nat.{ℕ, _*_}
-use mathlib.Core.Path.{_≡_, refl, sym, ap, ap₂, _∙_}
+use Prim.Native.Nat.{ℕ}
+use mathlib.Core.Path.{_≡_, refl, ap₂, _∙_}
 use mathlib.Core.Bool.{Bool, cond}
 use Rattle.sheet.specs.Sums.{total}
 use Rattle.sheet.specs.Table.{jobOf}
-use Rattle.sheet.specs.declared.Job.{Job}
 use Rattle.sheet.specs.declared.Table.{Table}
 use Rattle.demand.specs.Demand.{within, timeDemand, energyDemand, demandOf}
 use Rattle.demand.specs.declared.Kind.{Kind}

@@ -4,7 +4,7 @@ use mathlib.Core.List.{List}
 use mathlib.Core.Bool.{Bool, cond, not, _&&_, _||_}
 use lib.Dec.{ltb, leb, eqb}
 use lib.ListN.{length}
-use Rattle.sheet.specs.Paper.{Paper, Check, gives, _given-when_, _else_, inOrder, whereGiven}
+use Rattle.sheet.specs.Paper.{Check, gives, _given-when_, _else_, inOrder, whereGiven}
 use Rattle.sheet.specs.Sums.{harvestAt}
 use Rattle.sheet.specs.Table.{idleByte, jobOf, tableSays}
 use Rattle.sheet.specs.Sheet.{sheetSays, tableIn, harvestIn}

@@ -1,5 +1,5 @@
 -- What the judge's answers name stands in the plan, the table and the day: each is given only where it is stated.
-use Prim.Native.Nat.{ℕ, _+_, _*_, _<_}
+use Prim.Native.Nat.{ℕ, _<_}
 use mathlib.Core.Path.{_≡_, sym, _∙_, subst}
 use mathlib.Core.List.{List}
 use native.Mathlib.Decide.{ℕ-discrete}
@@ -13,7 +13,7 @@ use Rattle.sheet.proofs.Theorems.{sheet-accepted-exactly}
 use Rattle.reader.specs.Promise.{Reads}
 use Rattle.reader.specs.declared.Reading.{Reading}
 use Rattle.judge.specs.Promise.{JudgesSheetPlan, JudgesSheetClaim}
-use Rattle.judge.specs.Stated.{RunsIn, planTurn, PlanGivenFirst, ClaimStated}
+use Rattle.judge.specs.Stated.{RunsIn, planTurn, PlanGivenFirst}
 use Rattle.judge.specs.declared.PlanFault.{PlanFault}
 use Rattle.judge.specs.declared.PlanFault.the-variants.{WrongLength, NoJob, OutsideWindow, HasAllSlots, LacksCharge, LacksSlots}
 use Rattle.judge.specs.declared.JudgedPlan.{JudgedPlan}

@@ -1,11 +1,10 @@
 -- The planner's promise at each of its answers.
 use Prim.Native.Nat.{ℕ, _≤_}
-use mathlib.Core.Path.{_≡_, refl, sym, ap, ap₂, _∙_}
+use mathlib.Core.Path.{_≡_, sym, ap, ap₂, _∙_}
 use mathlib.Core.List.{List, []}
-use mathlib.Core.Bool.{Bool, not}
 use lib.ListN.{length}
 use borrow.Author.Tests.{eq-eqb, ne-eqb}
-use Rattle.sheet.specs.Paper.{Paper, Check, gives}
+use Rattle.sheet.specs.Paper.{gives}
 use Rattle.sheet.specs.Refusals.{refusalSays, outcomeSays}
 use Rattle.sheet.specs.Table.{mostJobs, tableSays}
 use Rattle.sheet.specs.Sheet.{sheetSays, tableIn, harvestIn}
@@ -29,7 +28,7 @@ use Rattle.slot_run.specs.Rules.{stateAt, planOf}
 use Rattle.slot_run.specs.declared.State.{State}
 use Rattle.slot_run.specs.declared.Unfinished.{Unfinished}
 use Rattle.slot_run.specs.declared.Unfinished.the-variants as Unfinished
-use Rattle.planner.specs.Plan.{Verdict, overloaded, met, undecided, byUnfinished, verdictOf, planTable, tablePlanned, planSheet, sheetPlanned}
+use Rattle.planner.specs.Plan.{Verdict, byUnfinished, verdictOf, planTable, tablePlanned, planSheet, sheetPlanned}
 use Rattle.planner.specs.Promise.{PlansTable, PlansSheet}
 use Rattle.planner.specs.declared.Planned.{Planned}
 use Rattle.planner.specs.declared.Planned.the-variants.{Refused, WrongPlan, Overloaded, Met, Undecided}

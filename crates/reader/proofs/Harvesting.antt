@@ -1,13 +1,13 @@
 -- The stretch behind a sheet's own records is its harvest, and an empty one where the sheet is refused.
 use Prim.Native.Nat.{ℕ, _+_, _*_}
-use mathlib.Core.Path.{_≡_, refl, sym, ap, _∙_, subst}
-use mathlib.Core.List.{List, []}
+use mathlib.Core.Path.{_≡_, sym, ap, _∙_, subst}
+use mathlib.Core.List.{List}
 use mathlib.Core.Logic.{⊎-elim}
 use native.Mathlib.Omega.{arith}
 use lib.ListN.{length}
 use borrow.Author.Tests.{le-leb}
 use Rattle.sheet.specs.Paper.{gives}
-use Rattle.sheet.specs.Sheet.{recordLength, sheetSays, tableIn, tableRead, noTable, harvestIn, harvestRead, jobsIn, slotsIn}
+use Rattle.sheet.specs.Sheet.{recordLength, sheetSays, tableIn, tableRead, harvestIn, harvestRead, jobsIn, slotsIn}
 use Rattle.sheet.specs.declared.Table.{Table}
 use Rattle.sheet.specs.WellFormed.{GoodTable}
 use Rattle.sheet.specs.declared.Outcome.the-variants.{Accepted}

@@ -1,6 +1,6 @@
 -- What a sheet says once 1 to 4 do not apply, and what is read of a sheet that is accepted and of one that is refused.
 use Prim.Native.Nat.{ℕ}
-use mathlib.Core.Path.{_≡_, refl, ap, sym, _∙_}
+use mathlib.Core.Path.{_≡_, refl, ap}
 use mathlib.Core.List.{List, []}
 use mathlib.Core.Bool.{false}
 use lib.Dec.{ltb}

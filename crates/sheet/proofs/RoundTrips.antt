@@ -10,16 +10,16 @@ use mathlib.Core.Bool.{false}
 use lib.Dec.{ltb}
 use borrow.Author.Tests.{le-ltb}
 use lib.ListN.{length, getD, take, drop, length-append, length-drop, take-append-drop, List·getD-append}
-use lib.Seq.{length-take-le, take-at, drop-at, take-add, take-all, drop-drop, getD-append-add}
+use lib.Seq.{take-at, drop-at, take-add, take-all, drop-drop, getD-append-add}
 use Rattle.sheet.specs.Paper.{Paper, Check, gives, refuses, refusesAt, _else_, whereGiven}
 use Rattle.sheet.specs.Lists.{joined}
-use Rattle.sheet.specs.Table.{mostSlots, jobOf, tableSays}
+use Rattle.sheet.specs.Table.{jobOf, tableSays}
 use Rattle.sheet.specs.Sheet.{u16, u16At, recordBytes, recordLength, trailerBytes, trailerLength, trailerAt, sheetBytes, sheetLength, markFirst, markSecond, harvestBack, firstJobBack, jobsIn, slotsIn, capacityIn, jobIn, lastByteIn, tableIn, harvestIn, sheetSays, tableRead, harvestRead, writeSays, bufferWritten}
 use Rattle.sheet.specs.WellFormed.{GoodJob, GoodTable, WellFormed, SameTable, Bytes}
 use Rattle.sheet.specs.declared.Job.{Job}
 use Rattle.sheet.specs.declared.Table.{Table}
 use Rattle.sheet.proofs.Lists.{joined-same, stretch-joined}
-use Rattle.sheet.proofs.Parts.{recordsOf, records-length, trailer-length, sheet-length}
+use Rattle.sheet.proofs.Parts.{recordsOf, records-length, sheet-length}
 use Rattle.sheet.proofs.Reading.{table-given, harvest-given}
 use Rattle.sheet.proofs.Theorems.{job-in-table, sheet-accepted-exactly, table-accepted-exactly}
 use Rattle.sheet.proofs.Exactly.{either}

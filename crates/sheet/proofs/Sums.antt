@@ -1,17 +1,17 @@
 -- Laws of sums and of "one of them": at 0, at one more, at the end, and term by term.
 use Prim.Native.Nat.{ℕ, zero, suc, _+_, _-_, _*_, _<_, _≤_}
 use mathlib.Core.Path.{_≡_, refl, sym, ap, ap₂, _∙_, subst}
-use mathlib.Core.Bool.{Bool, true, false, cond, _||_}
+use mathlib.Core.Bool.{Bool, true, false, _||_}
 use mathlib.Core.List.{List, _∷_}
-use mathlib.Core.Logic.{_⊎_, inl, inr, ⊎-elim}
-use native.Mathlib.Nat.{not-suc-le-zero, mul-zero, mul-suc, zero-add, add-assoc}
+use mathlib.Core.Logic.{_⊎_, ⊎-elim}
+use native.Mathlib.Nat.{not-suc-le-zero, mul-suc, add-assoc}
 use native.Mathlib.Numerals.{add-one}
 use native.Mathlib.Decide.{decLt, decLe, ℕ-discrete}
 use native.Mathlib.Omega.{arith}
 use lib.ListN.{length, getD, set, replicate}
 use lib.Seq.{getD-set-same, getD-set-other}
 use Rattle.sheet.specs.Table.{mostSlots}
-use Rattle.sheet.specs.Sums.{total, totalOf, some, harvestAt, harvestOf, TotalsOf}
+use Rattle.sheet.specs.Sums.{total, some, harvestAt, harvestOf, TotalsOf}
 use Rattle.sheet.proofs.Exactly.{either, never-both}
 
 -- ---- total

@@ -1,22 +1,22 @@
 -- The theorems on sheets and tables that are worth quoting. Each speaks of definitions of `specs/` alone; the contracts say that the code
 -- computes those.
-use Prim.Native.Nat.{ℕ, min, _+_, _-_, _*_, _<_, _≤_}
+use Prim.Native.Nat.{ℕ, min, _-_, _*_, _<_, _≤_}
 use mathlib.Core.Path.{_≡_, refl, sym, ap, _∙_, subst}
 use mathlib.Core.Bool.{Bool, true, false, not, _||_}
 use mathlib.Core.List.{List}
-use mathlib.Core.Logic.{_↔_, _⊎_, inl, inr, ⊎-elim, Iff·trans, Iff·symm}
+use mathlib.Core.Logic.{_↔_, _⊎_, inl, inr, ⊎-elim, Iff·trans}
 use native.Mathlib.Omega.{arith}
 use lib.Dec.{ltb, eqb}
-use lib.ListN.{length, take, drop, length-drop}
+use lib.ListN.{length, drop, length-drop}
 use lib.Seq.{length-take-le, ext-getD}
 use native.Mathlib.Decide.{decLe}
 use borrow.Author.Tests.{lt-ltb, le-ltb, eq-eqb, ne-eqb, ltb-true, ltb-false, eqb-true, eqb-false, not-true, not-false}
-use Rattle.sheet.specs.Paper.{Paper, Check, gives, _else_}
+use Rattle.sheet.specs.Paper.{Paper, gives, _else_}
 use Rattle.sheet.specs.Sums.{TotalsOf, ZerosBeyond}
-use Rattle.sheet.specs.Refusals.{Faults, inTurn, refusalSays}
+use Rattle.sheet.specs.Refusals.{refusalSays}
 use Rattle.sheet.specs.Table.{mostJobs, mostSlots, noJob, jobOf, countsFault, windowFault, workFault, tableFaults, tableSays}
-use Rattle.sheet.specs.Sheet.{trailerLength, recordLength, sheetLength, markFirst, markSecond, jobsIn, slotsIn, jobIn, lastByteIn, sheetFaults, sheetSays, tableIn, harvestIn, markFault, layoutFault}
-use Rattle.sheet.specs.WellFormed.{GoodJob, GoodTable, WellFormed, CountsStated, WindowStated, WorkStated, sheetStates, tableStates, turnOf, GivenFirst}
+use Rattle.sheet.specs.Sheet.{trailerLength, recordLength, sheetLength, jobsIn, slotsIn, jobIn, lastByteIn, sheetFaults, sheetSays, tableIn, harvestIn, markFault, layoutFault}
+use Rattle.sheet.specs.WellFormed.{GoodJob, GoodTable, WellFormed, CountsStated, WindowStated, WorkStated, sheetStates, tableStates, GivenFirst}
 use Rattle.sheet.specs.declared.Job.{Job}
 use Rattle.sheet.specs.declared.Table.{Table}
 use Rattle.sheet.specs.declared.Refusal.{Refusal}

@@ -1,9 +1,9 @@
 -- The promises of the first state and of a step, at each of their answers.
 use Prim.Native.Nat.{ℕ, _<_, _≤_}
-use mathlib.Core.Path.{_≡_, refl, sym, ap, _∙_}
+use mathlib.Core.Path.{_≡_, sym, ap, _∙_}
 use mathlib.Core.List.{List}
 use borrow.Author.Tests.{lt-ltb, le-ltb}
-use Rattle.sheet.specs.Paper.{Paper, gives}
+use Rattle.sheet.specs.Paper.{gives}
 use Rattle.sheet.specs.Refusals.{refusalSays, outcomeSays}
 use Rattle.sheet.specs.Table.{mostJobs, tableSays}
 use Rattle.sheet.specs.declared.Refusal.{Refusal}
@@ -20,7 +20,7 @@ use Rattle.slot_run.specs.declared.State.{State}
 use Rattle.slot_run.specs.declared.Decision.{Decision}
 use Rattle.slot_run.specs.declared.Stepped.the-variants.{Refused, Over, Decided}
 use Rattle.slot_run.specs.Rules.{Ruled, decisionSays, decided, nextState, firstState}
-use Rattle.slot_run.specs.Promise.{noState, Starts, Turn, over, ruled, Steps, stepOf, stateAfter}
+use Rattle.slot_run.specs.Promise.{noState, Starts, ruled, Steps, stepOf, stateAfter}
 
 -- past the check
 pub checked-good : (t : Table) (harvest : List ℕ) (o : Outcome) → outcomeSays o ≡ tableSays t harvest → o ≡ Outcome.Accepted → GoodTable t harvest

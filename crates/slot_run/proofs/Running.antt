@@ -1,15 +1,10 @@
 -- Laws of the whole run: its states slot by slot, and its plan byte by byte.
-use Prim.Native.Nat.{ℕ, zero, suc, _+_, _-_, _<_, _≤_}
-use mathlib.Core.Path.{_≡_, refl, sym, ap, ap₂, _∙_, subst}
-use mathlib.Core.List.{List, [], _∷_, _++_}
+use Prim.Native.Nat.{ℕ, zero, suc, _+_, _-_}
+use mathlib.Core.Path.{_≡_, refl, ap, _∙_}
+use mathlib.Core.List.{List}
 use native.Mathlib.Numerals.{add-one}
-use native.Mathlib.Omega.{arith}
-use lib.ListN.{length, drop, set}
-use Rattle.sheet.specs.Lists.{joined}
 use Rattle.sheet.specs.declared.Table.{Table}
-use Rattle.sheet.proofs.Lists.{over-none, over-more}
-use Rattle.slot_run.specs.declared.State.{State}
-use Rattle.slot_run.specs.Rules.{decided, nextState, firstState, stateAt, planByte, planOf}
+use Rattle.slot_run.specs.Rules.{decided, nextState, firstState, stateAt, planByte}
 
 pub state-first : (t : Table) (harvest : List ℕ) → stateAt t harvest 0 ≡ firstState t
 unfolding stateAt

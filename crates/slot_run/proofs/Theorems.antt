@@ -1,5 +1,5 @@
 -- The theorems on the slot run that are worth quoting.
-use Prim.Native.Nat.{ℕ, zero, suc, _+_, _<_, _≤_}
+use Prim.Native.Nat.{ℕ, zero, suc, _<_, _≤_}
 use mathlib.Core.Path.{_≡_, refl, sym, ap, _∙_}
 use mathlib.Core.Bool.{cond}
 use mathlib.Core.Logic.{_↔_}
@@ -28,7 +28,7 @@ use Rattle.slot_run.specs.declared.StepResult.{StepResult}
 use Rattle.slot_run.specs.declared.Unfinished.{Unfinished}
 use Rattle.slot_run.specs.declared.Unfinished.the-variants.{Nothing, Job}
 use Rattle.slot_run.specs.Slack.{wants, slackTimeAt, slackTime, comesBefore, slackEnergyAt, slackEnergy}
-use Rattle.slot_run.specs.Rules.{Ruled, idle, busy, decisionSays, decided, nextState, firstState, stateAt}
+use Rattle.slot_run.specs.Rules.{Ruled, idle, busy, decided, firstState, stateAt}
 use Rattle.slot_run.specs.Promise.{unfinishedSays, Starts, Turn, over, ruled, steppedSays, stepOf, stateAfter, Steps}
 use Rattle.slot_run.proofs.Running.{state-slot}
 use Rattle.slot_run.proofs.Slacks.{LeastAmong, least-is}

@@ -2,11 +2,10 @@
 use Prim.Native.Nat.{ℕ, zero, suc, _<_, _≤_}
 use mathlib.Core.Path.{_≡_, refl}
 use mathlib.Core.List.{List, [], _∷_}
-use mathlib.Core.Logic.{⊎-elim}
 use native.Mathlib.Omega.{arith}
 use lib.ListN.{length}
 use Rattle.sheet.specs.Lists.{joined, filled}
-use Rattle.sheet.specs.Paper.{gives, inOrder}
+use Rattle.sheet.specs.Paper.{inOrder}
 use Rattle.sheet.specs.Refusals.{inTurn}
 use Rattle.sheet.specs.Sums.{total, some, harvestOf, harvestAt}
 use Rattle.sheet.specs.Table.{countsFault, windowFault, workFault, jobOf}

@@ -1,10 +1,9 @@
 -- The promise at each of the writer's three answers.
 use Prim.Native.Nat.{ℕ, _≤_, _<_}
-use mathlib.Core.Path.{_≡_, refl, sym, ap, _∙_}
+use mathlib.Core.Path.{_≡_, sym, ap, _∙_}
 use mathlib.Core.List.{List}
 use lib.ListN.{length}
 use borrow.Author.Tests.{lt-ltb, le-ltb}
-use Rattle.sheet.specs.Paper.{Paper, _else_, whereGiven}
 use Rattle.sheet.specs.Refusals.{refusalSays, outcomeSays}
 use Rattle.sheet.specs.Table.{tableSays}
 use Rattle.sheet.specs.Sheet.{sheetBytes, sheetLength, writeSays, bufferWritten}

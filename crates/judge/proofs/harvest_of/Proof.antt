@@ -1,6 +1,6 @@
 -- The loop keeps: the sum is the harvest of the slots before i.
-use Prim.Native.Nat.{ℕ, _≤_, _<_, _+_, _-_, _*_}
-use mathlib.Core.Path.{_≡_, refl, sym, ap, ap₂, _∙_, subst}
+use Prim.Native.Nat.{_≤_, _+_, _-_, _*_}
+use mathlib.Core.Path.{_≡_, sym, ap, ap₂, _∙_}
 use native.Mathlib.Omega.{arith}
 use Rattle.sheet.specs.Sums.{harvestOf}
 use Rattle.sheet.proofs.Sums.{harvest-none, harvest-to}

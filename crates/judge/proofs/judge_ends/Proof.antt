@@ -1,12 +1,11 @@
 -- The loop keeps: no job before k lacks slots. The first that does is the answer.
-use Prim.Native.Nat.{ℕ, _≤_, _<_, _-_}
+use Prim.Native.Nat.{_≤_, _-_}
 use mathlib.Core.Path.{_≡_, refl, sym, ap, _∙_, subst}
 use native.Mathlib.Omega.{arith}
 use mathlib.Core.Bool.{Bool}
-use lib.Dec.{ltb}
 use lib.ListN.{getD}
 use borrow.Author.Tests.{lt-ltb, le-ltb}
-use Rattle.sheet.specs.Paper.{Check, gives, inOrder}
+use Rattle.sheet.specs.Paper.{gives, inOrder}
 use Rattle.sheet.specs.Table.{jobOf}
 use Rattle.sheet.proofs.Order.{in-order-none, in-order-clear, in-order-first, Refuses}
 use Rattle.judge.specs.Numbers.{faultSays, _applies-when_}

@@ -1,9 +1,8 @@
 -- The loop keeps: the level and the slots that each job got are those of the plan as slot i begins, and no slot before i is refused.
-use Prim.Native.Nat.{ℕ, min, _≤_, _<_, _+_, _-_}
-use mathlib.Core.Path.{_≡_, refl, sym, ap, ap₂, _∙_, subst}
-use mathlib.Core.List.{List}
+use Prim.Native.Nat.{_≤_, _<_, _+_, _-_}
+use mathlib.Core.Path.{_≡_, refl, ap₂, _∙_}
 use native.Mathlib.Omega.{arith}
-use lib.ListN.{length, getD, length-set}
+use lib.ListN.{length, getD}
 use Rattle.sheet.specs.Table.{jobOf}
 use Rattle.judge.proofs.Keeping.{Kept, kept-first, SlotRead, kept-idle, refused-stranger, refused-job, gets-more, is-paid, kept-busy, kept-decides}
 use borrow.Author.Needs.{needs}

@@ -1,5 +1,5 @@
 -- Each kind has its own share.
-use mathlib.Core.Path.{_≡_, sym, ap, _∙_}
+use mathlib.Core.Path.{sym, ap, _∙_}
 use Rattle.judge.specs.Steps.{shareOf}
 use borrow.Author.Needs.{needs}
 use Rattle.judge.proofs.share.Statement.{statement}

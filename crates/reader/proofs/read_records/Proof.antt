@@ -1,6 +1,6 @@
 -- The loop keeps: no record before k refuses, and the jobs before k stand in their places.
 use Prim.Native.Nat.{ℕ, _≤_, _-_}
-use mathlib.Core.Path.{_≡_, refl, sym, ap, subst, _∙_}
+use mathlib.Core.Path.{_≡_, sym, ap, subst, _∙_}
 use native.Mathlib.Omega.{arith}
 use Rattle.sheet.specs.Paper.{gives, inOrder}
 use Rattle.sheet.specs.Refusals.{outcomeSays}

@@ -1,10 +1,8 @@
 -- The loop keeps: the sum is that of the first k slots, and every entry up to k is its own total.
-use Prim.Native.Nat.{ℕ, suc, min, _+_, _-_, _*_, _≤_, _<_}
-use mathlib.Core.Path.{_≡_, refl, sym, ap, _∙_, subst}
-use native.Mathlib.Decide.{decLe}
+use Prim.Native.Nat.{ℕ, min, _+_, _-_, _*_, _≤_, _<_}
+use mathlib.Core.Path.{_≡_, refl, sym}
 use native.Mathlib.Omega.{arith}
 use lib.ListN.{length, getD, replicate, length-set}
-use lib.Seq.{getD-set-same, getD-set-other}
 use Rattle.sheet.specs.Table.{mostSlots}
 use Rattle.sheet.specs.Sums.{total, harvestAt, mostHarvest, SmallTotals}
 use Rattle.sheet.proofs.Sums.{total-none, total-more, entries-first, entries-more, small-none, small-more, zeros-first, zeros-more}

@@ -1,5 +1,5 @@
 -- Nothing but safety is asked: the two lengths are equal where the loop begins, and the index stays below them.
-use Prim.Native.Nat.{_≤_, _-_}
+use Prim.Native.Nat.{_-_}
 use mathlib.Core.Path.{_≡_}
 use lib.ListN.{length}
 use borrow.Author.Needs.{needs}

@@ -1,6 +1,5 @@
 -- The choice is nobody, or a job that is below the count; the rules for it decide.
-use mathlib.Core.Path.{_≡_, sym, ap, _∙_, subst}
-use Rattle.slot_run.specs.Choosing.{Choice, chosen}
+use mathlib.Core.Path.{sym, ap, _∙_, subst}
 use Rattle.slot_run.specs.Rules.{ruleOn, decided}
 use Rattle.slot_run.specs.Steps.{chosenSays, DeadlineHeld}
 use Rattle.slot_run.proofs.Choosing.{chosen-is}

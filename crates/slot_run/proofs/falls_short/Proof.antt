@@ -1,5 +1,4 @@
 -- The totals are small, so both sums fit; the answer is the comparison itself.
-use mathlib.Core.Path.{_≡_, ap, ap₂, sym}
 use native.Mathlib.Omega.{arith}
 use borrow.Author.Needs.{needs}
 use Rattle.slot_run.proofs.falls_short.Statement.{statement}

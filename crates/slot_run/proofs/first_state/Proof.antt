@@ -1,6 +1,6 @@
 -- The loop keeps: the jobs before k want all their slots, and zeros stand in the other places.
-use Prim.Native.Nat.{ℕ, _≤_, _-_}
-use mathlib.Core.Path.{_≡_, refl, sym, ap, _∙_, subst}
+use Prim.Native.Nat.{_≤_, _-_}
+use mathlib.Core.Path.{_≡_, refl, sym}
 use native.Mathlib.Omega.{arith}
 use Rattle.sheet.specs.Lists.{filled}
 use Rattle.sheet.specs.Table.{mostJobs, jobOf}
