@@ -21,7 +21,7 @@ pub record Reads (s : List ℕ) (r : Reading) : Type 0 where
 abbrev pub refusedReading : Refusal → Reading
 refusedReading why = record { outcome = Refused why; table = noTable }
 
--- the stretch of slots bytes behind so many records; an empty stretch where the bytes do not hold them
+-- the stretch of slots bytes behind so many records; an empty stretch where they are more than 64 or the bytes do not hold them
 unfoldable pub harvestBehind : List ℕ → ℕ → ℕ → List ℕ
 harvestBehind s jobs slots =
     cond (leb jobs mostJobs && leb (recordLength * jobs + slots) (length s))

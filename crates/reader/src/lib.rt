@@ -158,7 +158,8 @@ pub fn read(bytes: &[u8]) -> Reading
 }
 
 // The stretch of `slots` bytes behind `count` records, which is the harvest where a sheet's own
-// table has these counts; an empty stretch where the bytes do not hold so many. No byte is copied.
+// table has these counts; an empty stretch where the count is above 64 or the bytes do not hold so
+// many. No byte is copied.
 pub fn stretch(bytes: &[u8], count: usize, slots: u16) -> &[u8]
     ensures { λ r. ⌜ now r ≡ harvestBehind (now (bytes .entry)) count slots ⌝ }
 {

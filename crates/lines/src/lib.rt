@@ -1,0 +1,307 @@
+// The parts of a line of docs/TRIALS.md. A line is made in a space that is lent: a function puts its
+// part behind the `at` bytes that stand there and answers how many stand there now. Where the space is
+// full, what stands there is printed and the line goes on at its front.
+use demand::Kind;
+use demand::Overload;
+use judge::PlanFault;
+use judge::Sums;
+use sheet::Job;
+use sheet::Outcome;
+use sheet::Refusal;
+use sheet::Table;
+use slot_run::BusyWhy;
+use slot_run::Decision;
+use slot_run::IdleWhy;
+use slot_run::State;
+ghost use Prim.Native.Nat.{_≤_};
+ghost use lib.ListN.{length};
+ghost use Rattle.sheet.specs.Table.{mostJobs};
+
+// A byte.
+fn byte(out: &mut [u8], at: usize, byte: u8) -> usize
+    ensures { λ r. ⌜ r ≤ length (now (out .exit)) ⌝ }
+{
+    if at < out.len() {
+        out[at] = byte;
+        return at + 1;
+    }
+    print::word(out);
+    if 0 < out.len() {
+        out[0] = byte;
+        return 1;
+    }
+    0
+}
+
+// Bytes as they stand.
+pub fn word(out: &mut [u8], at: usize, word: &[u8]) -> usize {
+    let mut end = at;
+    let mut i = 0;
+    while i < word.len() {
+        end = byte(out, end, word[i]);
+        i += 1;
+    }
+    end
+}
+
+// A number in decimal.
+fn number(out: &mut [u8], at: usize, number: u64) -> usize {
+    let mut text = [0u8; 20];
+    let count = io::decimal(number, &mut text);
+    word(out, at, &text[..count])
+}
+
+// A word and a number behind it.
+pub fn named(out: &mut [u8], at: usize, name: &[u8], value: u64) -> usize {
+    let end = word(out, at, name);
+    number(out, end, value)
+}
+
+// The hexadecimal digit of a number's lowest four bits.
+fn digit(number: u8) -> u8 {
+    let low = number % 16;
+    if low < 10 {
+        b'0' + low
+    } else {
+        b'a' + (low - 10)
+    }
+}
+
+// Two digits for each of these bytes.
+fn digits(out: &mut [u8], at: usize, bytes: &[u8]) -> usize {
+    let mut end = at;
+    let mut i = 0;
+    while i < bytes.len() {
+        end = byte(out, end, digit(bytes[i] / 16));
+        end = byte(out, end, digit(bytes[i]));
+        i += 1;
+    }
+    end
+}
+
+// HEX.
+pub fn hex(out: &mut [u8], at: usize, bytes: &[u8]) -> usize {
+    if bytes.len() == 0 {
+        return word(out, at, b"none");
+    }
+    digits(out, at, bytes)
+}
+
+// A buffer that was lent for writing, behind the answer.
+pub fn buffer(out: &mut [u8], at: usize, bytes: &[u8]) -> usize {
+    let end = word(out, at, b" buffer ");
+    hex(out, end, bytes)
+}
+
+// `refused` and a refusal's number.
+pub fn refused(out: &mut [u8], at: usize, number: u8) -> usize {
+    named(out, at, b"refused ", number as u64)
+}
+
+// REFUSAL, 1 to 6.
+pub fn refusal(out: &mut [u8], at: usize, why: Refusal) -> usize {
+    let end = refused(out, at, sheet::number(why));
+    match why {
+        Refusal::Window(k) | Refusal::Work(k) => named(out, end, b" record ", k as u64),
+        _ => end,
+    }
+}
+
+// REFUSAL, 11 to 16.
+pub fn fault(out: &mut [u8], at: usize, fault: PlanFault) -> usize {
+    let end = refused(out, at, judge::number(fault));
+    match fault {
+        PlanFault::WrongLength => end,
+        PlanFault::NoJob(slot)
+        | PlanFault::OutsideWindow(slot)
+        | PlanFault::HasAllSlots(slot)
+        | PlanFault::LacksCharge(slot) => named(out, end, b" slot ", slot as u64),
+        PlanFault::LacksSlots(k) => named(out, end, b" job ", k as u64),
+    }
+}
+
+// `accepted`, or REFUSAL.
+pub fn outcome(out: &mut [u8], at: usize, outcome: Outcome) -> usize {
+    match outcome {
+        Outcome::Accepted => word(out, at, b"accepted"),
+        Outcome::Refused(why) => refusal(out, at, why),
+    }
+}
+
+// What was weighed.
+fn weighed(out: &mut [u8], at: usize, demand: u32, supply: u32) -> usize {
+    let end = named(out, at, b" demand ", demand as u64);
+    named(out, end, b" supply ", supply as u64)
+}
+
+// What the judge weighed.
+pub fn sums(out: &mut [u8], at: usize, sums: Sums) -> usize {
+    weighed(out, at, sums.demand, sums.supply)
+}
+
+// The kind of a demand.
+fn kind(out: &mut [u8], at: usize, kind: Kind) -> usize {
+    match kind {
+        Kind::Time => word(out, at, b"time "),
+        Kind::Energy => word(out, at, b"energy "),
+    }
+}
+
+// INTERVAL.
+pub fn interval(out: &mut [u8], at: usize, o: Overload) -> usize {
+    let which = o.kind;
+    let mut end = kind(out, at, which);
+    end = number(out, end, o.from as u64);
+    end = named(out, end, b" ", o.to as u64);
+    weighed(out, end, o.demand, o.supply)
+}
+
+// Whether a place of a table is all zeros.
+fn is_zeros(j: Job) -> bool {
+    j.release == 0 && j.deadline == 0 && j.wanted == 0 && j.energy == 0
+}
+
+// The places of a table up to the last that is not all zeros.
+fn used_places(t: Table) -> usize
+    ensures { λ r. ⌜ r ≤ mostJobs ⌝ }
+{
+    let mut count = sheet::MOST_JOBS;
+    while 0 < count {
+        let j = t.jobs[count - 1];
+        if !is_zeros(j) {
+            return count;
+        }
+        count -= 1;
+    }
+    count
+}
+
+// A place of a table.
+fn job(out: &mut [u8], at: usize, j: Job) -> usize {
+    let mut end = named(out, at, b" ", j.release as u64);
+    end = named(out, end, b",", j.deadline as u64);
+    end = named(out, end, b",", j.wanted as u64);
+    named(out, end, b",", j.energy as u64)
+}
+
+// The first places of a table.
+fn jobs(out: &mut [u8], at: usize, t: Table, count: usize) -> usize
+    requires { ⌜ count ≤ mostJobs ⌝ }
+{
+    let mut end = at;
+    let mut k = 0;
+    while k < count {
+        end = job(out, end, t.jobs[k]);
+        k += 1;
+    }
+    end
+}
+
+// The places of a table, or `none`.
+fn places(out: &mut [u8], at: usize, t: Table) -> usize {
+    let count = used_places(t);
+    if count == 0 {
+        return word(out, at, b" none");
+    }
+    jobs(out, at, t, count)
+}
+
+// TABLE.
+pub fn table(out: &mut [u8], at: usize, t: Table) -> usize {
+    let mut end = named(out, at, b" count ", t.count as u64);
+    end = named(out, end, b" slots ", t.slots as u64);
+    end = named(out, end, b" capacity ", t.capacity as u64);
+    end = word(out, end, b" places");
+    places(out, end, t)
+}
+
+// The places of a state up to the last that has something left.
+fn places_left(left: [u16; 64]) -> usize
+    ensures { λ r. ⌜ r ≤ mostJobs ⌝ }
+{
+    let mut count = sheet::MOST_JOBS;
+    while 0 < count {
+        if left[count - 1] != 0 {
+            return count;
+        }
+        count -= 1;
+    }
+    count
+}
+
+// A number of a state, as wide as the numbers of a line.
+fn wide(number: u16) -> u64 {
+    number as u64
+}
+
+// What stands before the number of a place: a space, and between two numbers a comma.
+fn mark_before(k: usize) -> u8 {
+    if k == 0 { b' ' } else { b',' }
+}
+
+// What the first places of a state have left.
+fn numbers_left(out: &mut [u8], at: usize, left: [u16; 64], count: usize) -> usize
+    requires { ⌜ count ≤ mostJobs ⌝ }
+{
+    let mut end = at;
+    let mut k = 0;
+    while k < count {
+        end = byte(out, end, mark_before(k));
+        end = number(out, end, wide(left[k]));
+        k += 1;
+    }
+    end
+}
+
+// What the places of a state have left, or `none`.
+fn places_of(out: &mut [u8], at: usize, left: [u16; 64]) -> usize {
+    let count = places_left(left);
+    if count == 0 {
+        return word(out, at, b" none");
+    }
+    numbers_left(out, at, left, count)
+}
+
+// STATE.
+pub fn state(out: &mut [u8], at: usize, s: State) -> usize {
+    let mut end = named(out, at, b" slot ", s.slot as u64);
+    end = named(out, end, b" level ", s.level as u64);
+    end = word(out, end, b" left");
+    let left = s.left;
+    places_of(out, end, left)
+}
+
+// Why a slot is busy.
+fn busy(out: &mut [u8], at: usize, why: BusyWhy) -> usize {
+    match why {
+        BusyWhy::Full => word(out, at, b" full"),
+        BusyWhy::NoSlack => word(out, at, b" noslack"),
+        BusyWhy::Free => word(out, at, b" free"),
+    }
+}
+
+// Why a slot is idle.
+fn idle(out: &mut [u8], at: usize, why: IdleWhy) -> usize {
+    match why {
+        IdleWhy::None => word(out, at, b"idle none"),
+        IdleWhy::Empty => word(out, at, b"idle empty"),
+        IdleWhy::Saving => word(out, at, b"idle saving"),
+    }
+}
+
+// What a slot does, and why.
+pub fn decision(out: &mut [u8], at: usize, decision: Decision) -> usize {
+    match decision {
+        Decision::Busy(k, why) => {
+            let end = named(out, at, b"busy ", k as u64);
+            busy(out, end, why)
+        }
+        Decision::Idle(why) => idle(out, at, why),
+    }
+}
+
+// Ends the line behind the `at` bytes that stand there, and prints them.
+pub fn print_line(out: &mut [u8], at: usize) {
+    let end = byte(out, at, b'\n');
+    print::word(&out[0..end]);
+}

@@ -1,0 +1,55 @@
+-- Nothing but safety is asked: what is left to be read falls.
+use mathlib.Core.Path.{_≡_}
+use lib.ListN.{length}
+use borrow.Author.Needs.{needs}
+use Rattle.trials.proofs.read_past.Statement.{statement}
+use Rattle.trials.proofs.read_past.Tie as tie
+
+abbrev Inv-loop : tie.InvT-loop
+Inv-loop count space₀ left₀ space left = length space ≡ length space₀
+
+abbrev μ-loop : tie.MeasureT-loop
+μ-loop count space₀ left₀ space left = left
+
+loop-holds : tie.Need-loop-holds Inv-loop μ-loop
+loop-holds c = search needs
+
+read-some-requires : tie.Need-read-some-requires Inv-loop μ-loop
+read-some-requires c κs = search needs
+
+same-length : tie.Need-same-length Inv-loop μ-loop
+same-length c = search needs
+
+returns : tie.Need-returns Inv-loop μ-loop
+returns c = search needs
+
+sub-left : tie.Need-sub-left Inv-loop μ-loop
+sub-left c = search needs
+
+loop-less : tie.Need-loop-less Inv-loop μ-loop
+loop-less c = search needs
+
+loop-again : tie.Need-loop-again Inv-loop μ-loop
+loop-again c = search needs
+
+same-length-2 : tie.Need-same-length-2 Inv-loop μ-loop
+same-length-2 c = search needs
+
+returns-2 : tie.Need-returns-2 Inv-loop μ-loop
+returns-2 c = search needs
+
+pub read-past-spec : {M : Type 1} → statement M
+read-past-spec =
+    tie.close
+    (tie.spec
+    Inv-loop
+    μ-loop
+    loop-holds
+    read-some-requires
+    same-length
+    returns
+    sub-left
+    loop-less
+    loop-again
+    same-length-2
+    returns-2)
