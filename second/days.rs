@@ -701,10 +701,19 @@ pub fn example_plans() -> Vec<(String, Vec<u8>)> {
     plans.iter().map(|(name, plan)| (name.to_string(), plan.to_vec())).collect()
 }
 
+/// The sheets and the plans of the folder examples/, by name.
+fn all_examples() -> impl Iterator<Item = (String, Vec<u8>)> {
+    examples().into_iter().chain(example_plans())
+}
+
 /// A sheet by its name, or a plan by its name and ending.
 pub fn example(name: &str) -> Vec<u8> {
-    let mut all = examples().into_iter().chain(example_plans());
-    all.find(|example| example.0 == name).expect("the name of an example").1
+    all_examples().find(|example| example.0 == name).expect("the name of an example").1
+}
+
+/// The name of every example, a line each.
+pub fn example_names() -> String {
+    all_examples().map(|example| example.0 + "\n").collect()
 }
 
 /// The plan of the run, whether or not an interval is overloaded.

@@ -169,11 +169,121 @@ pub fn claim_line_of_file(sheet: &str, claim: Claim) -> Result<String, String> {
     Ok(claim_evidence(&sheet, claim))
 }
 
-/// Rows of arguments, ` | ` and a line: each row again, with the line that comes out.
-pub fn evidence_table(rows: &str) -> String {
+/// The arguments of every row of examples/evidence.txt, in order. They are split at each space, so two
+/// spaces hold an empty argument between them.
+const ROWS: [&str; 98] = [
+    // days 9 to 11
+    "day-1.sheet plan day-9-accepted.plan",
+    "day-1.sheet plan day-9-refused.plan",
+    "day-5.sheet plan day-10.plan",
+    "day-1.sheet claim energy 0 4",
+    // plans refused 12 to 16
+    "largest-day.sheet plan largest-day.plan",
+    "day-1.sheet plan day-1-no-job.plan",
+    "day-1.sheet plan day-1-too-early.plan",
+    "day-1.sheet plan day-1-twice.plan",
+    "day-7.sheet plan day-7-no-job.plan",
+    "day-2.sheet plan day-9-accepted.plan",
+    "day-2.sheet plan day-9-refused.plan",
+    "day-2.sheet plan day-1-twice.plan",
+    "day-3.sheet plan day-7-no-job.plan",
+    "day-4.sheet plan day-7-no-job.plan",
+    // 11: plans of another length
+    "day-5.sheet plan day-9-accepted.plan",
+    "day-1.sheet plan day-10.plan",
+    "day-7.sheet plan day-9-accepted.plan",
+    "day-1.sheet plan largest-day.plan",
+    "day-1.sheet plan day-1.sheet",
+    "largest-day.sheet plan day-10.plan",
+    // sheets refused 1, 2 and 5
+    "day-9-accepted.plan plan day-9-accepted.plan",
+    "day-10.plan claim time 0 1",
+    "day-1.txt plan day-9-accepted.plan",
+    "largest-day.plan claim energy 0 4",
+    "refused.sheet plan day-9-accepted.plan",
+    "refused.sheet plan day-10.plan",
+    "refused.sheet claim time 0 4",
+    "refused.sheet claim 2 4 0",
+    // claims of an interval, good and refused 18
+    "day-2.sheet claim energy 0 4",
+    "day-2.sheet claim 1 0 4",
+    "day-2.sheet claim 01 00 004",
+    "day-2.sheet claim energy 1 2",
+    "day-2.sheet claim time 0 4",
+    "day-3.sheet claim time 0 1",
+    "day-3.sheet claim 0 0 1",
+    "day-3.sheet claim energy 0 1",
+    "day-4.sheet claim time 0 1",
+    "day-4.sheet claim energy 0 1",
+    "day-5.sheet claim energy 1 5",
+    "day-5.sheet claim energy 0 9",
+    "day-5.sheet claim time 1 5",
+    "day-5.sheet claim time 2 5",
+    "day-6.sheet claim time 0 2",
+    "day-6.sheet claim energy 0 2",
+    "day-7.sheet claim energy 0 1",
+    "largest-day.sheet claim time 0 1440",
+    "largest-day.sheet claim energy 0 1440",
+    // 17: claims of none; some would be good if they were cut
+    "largest-day.sheet claim energy 0 1441",
+    "day-1.sheet claim 2 0 4",
+    "day-1.sheet claim 255 0 4",
+    "day-1.sheet claim time 0 0",
+    "day-1.sheet claim time 2 2",
+    "day-1.sheet claim time 4 4",
+    "day-1.sheet claim energy 3 1",
+    "day-1.sheet claim time 0 5",
+    "day-1.sheet claim energy 4 5",
+    "day-2.sheet claim 257 0 4",
+    "day-2.sheet claim 65537 0 4",
+    "day-2.sheet claim 4294967297 0 4",
+    "day-2.sheet claim 18446744073709551615 0 4",
+    "day-2.sheet claim 18446744073709551616 0 4",
+    "day-2.sheet claim 18446744073709551617 0 4",
+    "day-2.sheet claim 99999999999999999999999999999999 0 4",
+    "day-2.sheet claim energy 18446744073709551616 4",
+    "day-2.sheet claim energy 0 18446744073709551620",
+    "day-2.sheet claim energy 65536 65540",
+    "day-2.sheet claim energy 4294967296 4294967300",
+    "day-2.sheet claim energy 18446744073709551616 18446744073709551620",
+    // files that cannot be read, or are too long
+    "missing.sheet plan missing.plan",
+    "missing.sheet plan day-9-accepted.plan",
+    "missing.sheet claim time 0 4",
+    "day-1.sheet plan missing.plan",
+    "refused.sheet plan missing.plan",
+    ". plan day-9-accepted.plan",
+    "largest-day.txt plan day-9-accepted.plan",
+    "largest-day.txt claim time 0 4",
+    "day-1.sheet plan largest-day.txt",
+    "refused.sheet plan largest-day.txt",
+    // arguments of no form: the usage
+    "day-1.sheet",
+    "day-1.sheet plan",
+    "day-1.sheet plan day-9-accepted.plan day-10.plan",
+    "day-1.sheet Plan day-9-accepted.plan",
+    "day-1.sheet claim",
+    "day-1.sheet claim time 0",
+    "day-1.sheet claim time 0 4 4",
+    "day-1.sheet claim work 0 4",
+    "day-1.sheet claim Time 0 4",
+    "day-1.sheet claim  0 4",
+    "day-1.sheet claim time  4",
+    "day-1.sheet claim time 0 x",
+    "day-1.sheet claim time 0x0 4",
+    "day-1.sheet claim time -1 4",
+    "day-1.sheet claim time 0 +4",
+    "day-1.sheet claim time 0 4.0",
+    "day-1.sheet claim -0 0 4",
+    "missing.sheet claim time 0 x",
+    "missing.sheet plan",
+    "plan day-1.sheet day-9-accepted.plan",
+];
+
+/// The table of evidence: of each row the arguments, ` | ` and the line that comes out.
+pub fn evidence_table() -> String {
     let mut table = String::new();
-    for row in rows.lines() {
-        let arguments = row.split(" | ").next().unwrap();
+    for arguments in ROWS {
         let words: Vec<&str> = arguments.split(' ').collect();
         table += &format!("{arguments} | {}\n", evidence_line(&words));
     }

@@ -43,7 +43,7 @@ fn answer() {
 
 const USE: &str = "use: second answer [--slip NAME] | make SEED COUNT | fixed | \
                    compare SEED COUNT PROGRAM | slips | teeth | day | example NAME | \
-                   evidence ARGUMENTS | evidence-table | self-test";
+                   examples | evidence ARGUMENTS | evidence-table | self-test";
 
 fn stop_with_use() -> ! {
     eprintln!("{USE}");
@@ -84,13 +84,11 @@ fn main() {
         }
         ["day"] => print(words::day_listing(&standard_input()).as_bytes()),
         ["example", name] => print(&days::example(name)),
+        ["examples"] => print(days::example_names().as_bytes()),
         ["evidence", ref words @ ..] => {
             print(format!("{}\n", evidence::evidence_line(words)).as_bytes())
         }
-        ["evidence-table"] => {
-            let rows = String::from_utf8(standard_input()).expect("rows of text");
-            print(evidence::evidence_table(&rows).as_bytes())
-        }
+        ["evidence-table"] => print(evidence::evidence_table().as_bytes()),
         ["self-test"] => {
             tests::self_test();
             print(b"ok\n");
