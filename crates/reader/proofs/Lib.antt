@@ -1,3 +1,3 @@
-pub mod Front
 pub mod Harvesting
+pub mod Records
 pub mod Theorems

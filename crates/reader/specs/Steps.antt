@@ -2,20 +2,22 @@
 use Prim.Native.Nat.{ℕ, _*_, _≤_}
 use mathlib.Core.Path.{_≡_}
 use mathlib.Core.List.{List}
-use mathlib.Core.Bool.{false}
-use lib.Dec.{ltb}
 use lib.ListN.{length}
-use Rattle.sheet.specs.Table.{mostJobs, countsFault}
-use Rattle.sheet.specs.Sheet.{recordLength, trailerLength, jobsIn, slotsIn, capacityIn, markFault, layoutFault}
+use Rattle.sheet.specs.Lists.{filled}
+use Rattle.sheet.specs.Paper.{Check, _else_, inOrder, whereGiven}
+use Rattle.sheet.specs.Refusals.{outcomeSays}
+use Rattle.sheet.specs.Table.{mostJobs, noJob, recordSays}
+use Rattle.sheet.specs.Sheet.{recordLength, jobIn, lastByteIn, sheetSays, tableIn, noTable}
+use Rattle.reader.specs.declared.Trailer.{Trailer}
 
--- 1 to 4 do not apply, and these are the trailer's numbers
-pub record FrontFine (s : List ℕ) (jobs slots capacity : ℕ) : Type 0 where
-  pub short : ltb (length s) trailerLength ≡ false
-  pub mark : markFault s ≡ false
-  pub counts : countsFault (jobsIn s) (slotsIn s) ≡ false
-  pub layout : layoutFault s ≡ false
-  pub few : jobs ≤ mostJobs
-  pub fit : recordLength * jobs ≤ length s
-  pub jobs-are : jobs ≡ jobsIn s
-  pub slots-are : slots ≡ slotsIn s
-  pub capacity-are : capacity ≡ capacityIn s
+-- record k, on a day of so many slots
+abbrev pub recordIn : List ℕ → ℕ → ℕ → Check
+recordIn s slots k = recordSays slots (jobIn s k) (lastByteIn s k) k
+
+-- where the trailer is not refused the records decide, and where it is there are none; the bytes hold so many records
+pub record ReadsTrailer (s : List ℕ) (t : Trailer) : Type 0 where
+  pub says : sheetSays s ≡ (outcomeSays (t .outcome) else inOrder (recordIn s (t .slots)) (t .count))
+  pub table : whereGiven (outcomeSays (t .outcome)) (tableIn s) noTable
+      ≡ record { jobs = filled (jobIn s) noJob mostJobs (t .count); count = t .count; slots = t .slots; capacity = t .capacity }
+  pub few : t .count ≤ mostJobs
+  pub fit : recordLength * t .count ≤ length s

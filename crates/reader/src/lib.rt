@@ -6,11 +6,11 @@ use sheet::Refusal;
 use sheet::Table;
 ghost use mathlib.Core.Path.{_≡_};
 ghost use Prim.Native.Nat.{_+_, _*_, _-_, _≤_, _<_};
-ghost use lib.ListN.{length};
-ghost use Rattle.sheet.specs.Table.{noJob, mostJobs};
-ghost use Rattle.sheet.specs.Sheet.{u16At, jobIn, jobsIn, slotsIn, capacityIn, trailerAt, markFault, layoutFault, recordLength, trailerLength, harvestRead};
-ghost use Rattle.reader.specs.Steps.{FrontFine};
-ghost use Rattle.reader.specs.Promise.{Reads, refusedReading, harvestBehind};
+ghost use lib.ListN.{length, replicate};
+ghost use Rattle.sheet.specs.Table.{mostJobs};
+ghost use Rattle.sheet.specs.Sheet.{u16At, jobIn, jobsIn, slotsIn, markFault, layoutFault, recordLength, trailerLength, noTable, harvestRead};
+ghost use Rattle.reader.specs.Steps.{ReadsTrailer};
+ghost use Rattle.reader.specs.Promise.{Reads, harvestBehind};
 
 // What reading a sheet yields. Of a refused sheet the table has no jobs, slots 0 and capacity 0.
 pub struct Reading {
@@ -79,64 +79,29 @@ fn layout_fault(bytes: &[u8], count: usize, slots: u16) -> bool
     length != back + sheet::TRAILER_LENGTH
 }
 
-// What a refused sheet yields.
-fn refused(why: Refusal) -> Reading
-    ensures { λ r. ⌜ r ≡ refusedReading why ⌝ }
+// What the trailer says: the refusal, 1 to 4, and no jobs, slots 0 and capacity 0; or its numbers.
+struct Trailer {
+    outcome: Outcome,
+    count: usize,
+    slots: u16,
+    capacity: u16,
+}
+
+// A refusal, and no numbers.
+fn refused(why: Refusal) -> Trailer
+    ensures { λ r. ⌜ r ≡ record { outcome = Outcome.Refused why; count = 0; slots = 0; capacity = 0 } ⌝ }
 {
-    let none = Job {
-        release: 0,
-        deadline: 0,
-        wanted: 0,
-        energy: 0,
-    };
-    Reading {
+    Trailer {
         outcome: Outcome::Refused(why),
-        table: Table {
-            jobs: [none; sheet::MOST_JOBS],
-            count: 0,
-            slots: 0,
-            capacity: 0,
-        },
+        count: 0,
+        slots: 0,
+        capacity: 0,
     }
 }
 
-// The records of a sheet whose trailer is good, in order, and then the table. Only `read` calls it.
-fn read_records(bytes: &[u8], count: usize, slots: u16, capacity: u16) -> Reading
-    requires { ⌜ FrontFine (now bytes) count slots capacity ⌝ }
-    ensures { λ r. ⌜ Reads (now (bytes .entry)) r ⌝ }
-{
-    let none = Job {
-        release: 0,
-        deadline: 0,
-        wanted: 0,
-        energy: 0,
-    };
-    let mut jobs = [none; sheet::MOST_JOBS];
-    let mut k = 0;
-    while k < count {
-        let job = job_in(bytes, k);
-        let answer = sheet::check_record(slots, job, bytes[sheet::RECORD_LENGTH * k + 7], k);
-        if let Outcome::Refused(why) = answer {
-            return refused(why);
-        }
-        jobs[k] = job;
-        k += 1;
-    }
-    Reading {
-        outcome: Outcome::Accepted,
-        table: Table {
-            jobs,
-            count,
-            slots,
-            capacity,
-        },
-    }
-}
-
-// Reads a sheet, from any bytes at all: the table, or the refusal, 1 to 6. It keeps nothing of the
-// harvest: `harvest` hands that back as a stretch of the sheet itself.
-pub fn read(bytes: &[u8]) -> Reading
-    ensures { λ r. ⌜ Reads (now (bytes .entry)) r ⌝ }
+// The trailer of a sheet, from any bytes at all.
+fn read_trailer(bytes: &[u8]) -> Trailer
+    ensures { λ r. ⌜ ReadsTrailer (now (bytes .entry)) r ⌝ }
 {
     let length = bytes.len();
     if length < sheet::TRAILER_LENGTH {
@@ -154,7 +119,67 @@ pub fn read(bytes: &[u8]) -> Reading
     if layout_fault(bytes, count, slots) {
         return refused(Refusal::Layout);
     }
-    read_records(bytes, count, slots, u16_at(bytes, trailer + 8))
+    Trailer {
+        outcome: Outcome::Accepted,
+        count,
+        slots,
+        capacity: u16_at(bytes, trailer + 8),
+    }
+}
+
+// As many places as a table has, with this job in each. Handed over, a job is stored whole; written
+// out here it would be stored field by field, 64 times.
+fn places(job: Job) -> [Job; sheet::MOST_JOBS]
+    ensures { λ r. ⌜ r ≡ replicate mostJobs job ⌝ }
+{
+    [job; sheet::MOST_JOBS]
+}
+
+// The table of a refused sheet.
+fn no_table() -> Table
+    ensures { λ r. ⌜ r ≡ noTable ⌝ }
+{
+    let none = Job {
+        release: 0,
+        deadline: 0,
+        wanted: 0,
+        energy: 0,
+    };
+    Table {
+        jobs: places(none),
+        count: 0,
+        slots: 0,
+        capacity: 0,
+    }
+}
+
+// Reads a sheet, from any bytes at all: the table, or the refusal, 1 to 6. It keeps nothing of the
+// harvest: `harvest` hands that back as a stretch of the sheet itself.
+pub fn read(bytes: &[u8]) -> Reading
+    ensures { λ r. ⌜ Reads (now (bytes .entry)) r ⌝ }
+{
+    let trailer = read_trailer(bytes);
+    let count = trailer.count;
+    let slots = trailer.slots;
+    let mut table = no_table();
+    let mut k = 0;
+    while k < count {
+        let job = job_in(bytes, k);
+        let answer = sheet::check_record(slots, job, bytes[sheet::RECORD_LENGTH * k + 7], k);
+        if let Outcome::Refused(_) = answer {
+            return Reading {
+                outcome: answer,
+                table: no_table(),
+            };
+        }
+        table.jobs[k] = job;
+        k += 1;
+    }
+    table.count = count;
+    table.slots = slots;
+    table.capacity = trailer.capacity;
+    let outcome = trailer.outcome;
+    Reading { outcome, table }
 }
 
 // The stretch of `slots` bytes behind `count` records, which is the harvest where a sheet's own

@@ -7,16 +7,10 @@ use borrow.Author.Needs.{needs}
 use Rattle.reader.proofs.harvest.Statement.{statement}
 use Rattle.reader.proofs.harvest.Tie as tie
 
-read-requires : tie.Need-read-requires
-read-requires c κs = search needs
-
-stretch-requires : tie.Need-stretch-requires
-stretch-requires c κs = search needs
-
 returns : tie.Need-returns
 returns c =
     let said = c .before .read .ensures .table in
     c .stretch .ensures ∙ ap (λ (t : Table). harvestBehind (c .before .before .before .args .bytes .now) (t .count) (t .slots)) said ∙ own-stretch _
 
 pub harvest-spec : {M : Type 1} → statement M
-harvest-spec = tie.close (tie.spec read-requires stretch-requires returns)
+harvest-spec = tie.close (tie.spec (λ c κs. search needs) (λ c κs. search needs) returns)

@@ -1,99 +1,53 @@
--- Each refusal follows the tests that led to it; past them the front is fine, and the records decide.
-use mathlib.Core.Path.{sym, _∙_}
-use Rattle.sheet.proofs.Words.{counts-words}
-use Rattle.reader.proofs.Front.{short-reads, mark-reads, counts-reads, layout-reads, front-fine}
+-- The loop keeps: no record before k refuses, and the jobs before k stand in their places.
+use Prim.Native.Nat.{_≤_, _-_}
+use native.Mathlib.Omega.{arith}
+use Rattle.reader.proofs.Records.{ReadTo, read-none, read-more, record-refuses, records-good}
 use borrow.Author.Needs.{needs}
 use Rattle.reader.proofs.read.Statement.{statement}
 use Rattle.reader.proofs.read.Tie as tie
 
-refused-requires : tie.Need-refused-requires
-refused-requires c κs = search needs
+abbrev Inv-loop : tie.InvT-loop
+Inv-loop bytes trailer count slots table₀ k₀ table k = (k ≤ count) × ReadTo bytes slots k (table .jobs)
 
-returns : tie.Need-returns
-returns c = search short-reads
+abbrev μ-loop : tie.MeasureT-loop
+μ-loop bytes trailer count slots table₀ k₀ table k = count - k
 
-mark-fault-requires : tie.Need-mark-fault-requires
-mark-fault-requires c κs = search needs
+returns : tie.Need-returns Inv-loop μ-loop
+returns c = search record-refuses
 
-refused-requires-2 : tie.Need-refused-requires-2
-refused-requires-2 c κs = search needs
+loop-again : tie.Need-loop-again Inv-loop μ-loop
+loop-again c =
+    let checked = c .before .before in
+    let read = checked .before .before in
+    let at-loop = read .before .before in (
+      search needs,
+      read-more _ _ _ _ (read .job-in .ensures) _ (checked .check-record .ensures) _ (at-loop .loop .inv .1) (c .enum-told2 .given .1) (search needs),
+    )
 
-returns-2 : tie.Need-returns-2
-returns-2 c = search mark-reads
-
-add-u16-at : tie.Need-add-u16-at
-add-u16-at c = search needs
-
-u16-at-requires : tie.Need-u16-at-requires
-u16-at-requires c κs = search needs
-
-cast-count : tie.Need-cast-count
-cast-count c = search needs
-
-add-u16-at-2 : tie.Need-add-u16-at-2
-add-u16-at-2 c = search needs
-
-u16-at-requires-2 : tie.Need-u16-at-requires-2
-u16-at-requires-2 c κs = search needs
-
-counts-fault-requires : tie.Need-counts-fault-requires
-counts-fault-requires c κs = search needs
-
-refused-requires-3 : tie.Need-refused-requires-3
-refused-requires-3 c κs = search needs
-
-returns-3 : tie.Need-returns-3
-returns-3 c = search counts-reads
-
-layout-fault-requires : tie.Need-layout-fault-requires
-layout-fault-requires c κs = (
-  search needs,
-  (
-    c .before .before .before .u16-at .ensures,
-    c .before .before .u16-at2 .ensures,
-    counts-words _ _ .0 (sym (c .before .counts-fault .ensures) ∙ c .if3 .left) .0,
-  ),
-)
-
-refused-requires-4 : tie.Need-refused-requires-4
-refused-requires-4 c κs = search needs
-
-returns-4 : tie.Need-returns-4
-returns-4 c = search layout-reads
-
-add-u16-at-3 : tie.Need-add-u16-at-3
-add-u16-at-3 c = search needs
-
-u16-at-requires-3 : tie.Need-u16-at-requires-3
-u16-at-requires-3 c κs = search needs
-
-read-records-requires : tie.Need-read-records-requires
-read-records-requires c κs = search front-fine
-
-returns-5 : tie.Need-returns-5
-returns-5 c = search needs
+returns-2 : tie.Need-returns-2 Inv-loop μ-loop
+returns-2 c = records-good _ _ (c .before .before .before .read-trailer .ensures) _ _ (c .before .loop .inv .1) (omega arith)
 
 pub read-spec : {M : Type 1} → statement M
 read-spec =
     tie.close
     (tie.spec
-    refused-requires
+    Inv-loop
+    μ-loop
+    (λ c κs. search needs)
+    (λ c κs. search needs)
+    (λ c. (search needs, search read-none))
+    (λ c κs. search needs)
+    (λ c. search needs)
+    (λ c. search needs)
+    (λ c. search needs)
+    (λ c κs. search needs)
+    (λ c. search needs)
+    (λ c κs. search needs)
     returns
-    mark-fault-requires
-    refused-requires-2
-    returns-2
-    add-u16-at
-    u16-at-requires
-    cast-count
-    add-u16-at-2
-    u16-at-requires-2
-    counts-fault-requires
-    refused-requires-3
-    returns-3
-    layout-fault-requires
-    refused-requires-4
-    returns-4
-    add-u16-at-3
-    u16-at-requires-3
-    read-records-requires
-    returns-5)
+    (λ c. search needs)
+    (λ c. search needs)
+    (λ c. search needs)
+    (λ c. search needs)
+    (λ c. search needs)
+    loop-again
+    returns-2)

@@ -11,34 +11,13 @@ use borrow.Author.Needs.{needs}
 use Rattle.reader.proofs.stretch.Statement.{statement}
 use Rattle.reader.proofs.stretch.Tie as tie
 
-slice-aggregate-result : tie.Need-slice-aggregate-result
-slice-aggregate-result c = search needs
-
 returns : tie.Need-returns
 unfolding harvestBehind
 returns c = search tests
 
-mul-from : tie.Need-mul-from
-mul-from c = search needs
-
-add-to : tie.Need-add-to
-add-to c = search needs
-
-slice-aggregate-result-2 : tie.Need-slice-aggregate-result-2
-slice-aggregate-result-2 c = search needs
-
 returns-2 : tie.Need-returns-2
 unfolding harvestBehind
 returns-2 c = search tests
-
-sub-result : tie.Need-sub-result
-sub-result c = search needs
-
-part-result-start : tie.Need-part-result-start
-part-result-start c = search needs
-
-part-result-end : tie.Need-part-result-end
-part-result-end c = search needs
 
 returns-3 : tie.Need-returns-3
 unfolding harvestBehind
@@ -50,14 +29,4 @@ returns-3 c =
 pub stretch-spec : {M : Type 1} → statement M
 stretch-spec =
     tie.close
-    (tie.spec
-    slice-aggregate-result
-    returns
-    mul-from
-    add-to
-    slice-aggregate-result-2
-    returns-2
-    sub-result
-    part-result-start
-    part-result-end
-    returns-3)
+    (tie.spec (λ c. search needs) returns (λ c. search needs) (λ c. search needs) (λ c. search needs) returns-2 (λ c. search needs) (λ c. search needs) (λ c. search needs) returns-3)
