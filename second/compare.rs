@@ -75,11 +75,11 @@ fn differing_lines(own: &str, other: &str) -> (String, String) {
     }
 }
 
-/// Pipes the requests of that seed into the program and holds every line against the own one as
-/// it comes. Prints what came of it; false where anything differs.
-pub fn compare(seed: u64, count: u64, program: &str) -> bool {
+/// Pipes the requests of that seed into the program, started with these words, and holds every line
+/// against the own one as it comes. Prints what came of it; false where anything differs.
+pub fn compare(seed: u64, count: u64, program: &str, words: &[&str]) -> bool {
     let started =
-        Command::new(program).stdin(Stdio::piped()).stdout(Stdio::piped()).spawn();
+        Command::new(program).args(words).stdin(Stdio::piped()).stdout(Stdio::piped()).spawn();
     let mut child = match started {
         Ok(child) => child,
         Err(problem) => {

@@ -42,7 +42,7 @@ fn answer() {
 }
 
 const USE: &str = "use: second answer [--slip NAME] | make SEED COUNT | fixed | \
-                   compare SEED COUNT PROGRAM | slips | teeth | day | example NAME | \
+                   compare SEED COUNT PROGRAM [WORDS..] | slips | teeth | day | example NAME | \
                    examples | evidence ARGUMENTS | evidence-table | self-test";
 
 fn stop_with_use() -> ! {
@@ -71,8 +71,8 @@ fn main() {
             let _ = output.flush();
         }
         ["fixed"] => print(&fixed::fixed_requests()),
-        ["compare", seed, count, program] => {
-            if !compare::compare(number(seed), number(count), program) {
+        ["compare", seed, count, program, ref words @ ..] => {
+            if !compare::compare(number(seed), number(count), program, words) {
                 std::process::exit(1);
             }
         }

@@ -1,109 +1,107 @@
--- The numbers of the answers. A search and a plan have one for every refusal, and an undecided day's job is one of the table's; a judge's answer has each
--- refusal's own.
-use Prim.Native.Nat.{ℕ, _+_, _<_, _^_}
-use mathlib.Core.Path.{_≡_, refl, sym, ap, _∙_}
+-- Each answer as one number: a refusal's, an interval's, and that of an undecided day, whose job is one of the table's.
+use Prim.Native.Nat.{ℕ, _+_, _*_, _%_, _<_, _^_}
+use mathlib.Core.Path.{_≡_, refl, sym, ap, ap₂, _∙_}
 use mathlib.Core.List.{List}
 use mathlib.Core.Bool.{not}
 use native.Mathlib.Omega.{arith}
 use lib.Dec.{eqb}
 use lib.ListN.{length}
-use Rattle.sheet.specs.Paper.{Paper, Check, gives, refuses, refusesAt, _given-when_, _else_}
-use Rattle.sheet.specs.Refusals.{refusalSays}
+use Rattle.sheet.specs.HandedIn.{onSheet, checkSays, dayIn}
+use Rattle.sheet.specs.Paper.{Paper, Check, gives, refuses, refusesAt, _when_, _else_, numberOf, placeOf}
+use Rattle.sheet.specs.Refusals.{refusalSays, refusalNumber, refusalPlace}
 use Rattle.sheet.specs.Table.{mostJobs}
-use Rattle.sheet.specs.Sheet.{sheetSays, slotsIn, tableIn, harvestIn}
 use Rattle.sheet.specs.declared.Refusal.{Refusal}
-use Rattle.sheet.specs.declared.Refusal.the-variants.{Short, Mark, Counts, Layout, Window, Work}
-use Rattle.sheet.proofs.Theorems.{sheet-accepted-exactly}
+use Rattle.sheet.proofs.HandedIn.{check-leaves}
+use Rattle.sheet.proofs.Order.{Refuses, else-gave}
+use Rattle.sheet.proofs.Refusals.{refusal-refuses}
+use Rattle.writer.specs.Promise.{writtenSays}
+use Rattle.writer.specs.declared.Written.{Written}
+use Rattle.writer.specs.declared.Written.the-variants as Written
 use Rattle.demand.specs.Demand.{kindNumber}
 use Rattle.demand.specs.declared.Kind.{Kind}
-use Rattle.demand.specs.Search.{Found, interval, nothing, overloadSays, foundSays, smallestEnd, searchedSays}
+use Rattle.demand.specs.Search.{overloadSays, foundSays, firstOverload, searchedSays}
+use Rattle.demand.specs.declared.Found.{Found}
+use Rattle.demand.specs.declared.Found.the-variants as Found
 use Rattle.demand.specs.declared.Overload.{Overload}
 use Rattle.demand.specs.declared.Searched.{Searched}
 use Rattle.demand.specs.declared.Searched.the-variants as Searched
-use Rattle.slot_run.specs.Choosing.{Choice, nobody, job, unfinished}
+use Rattle.slot_run.specs.Choosing.{unfinished}
 use Rattle.slot_run.specs.Rules.{stateAt}
+use Rattle.slot_run.specs.declared.Choice.{Choice}
+use Rattle.slot_run.specs.declared.Choice.the-variants.{Nobody, Job}
 use Rattle.slot_run.proofs.Choosing.{chosen-passes}
-use Rattle.planner.specs.Plan.{Verdict, undecided, byFound, byUnfinished, verdictOf, planSheet}
-use Rattle.judge.specs.Numbers.{faultSays}
-use Rattle.judge.specs.Promise.{claimAnswered, sumsTold}
+use Rattle.planner.specs.Plan.{Verdict, undecided, byFound, byUnfinished, verdictOf, wrongPlan, planFor}
+use Rattle.planner.specs.Promise.{plannedSays, Plans}
+use Rattle.planner.specs.declared.Planned.{Planned}
+use Rattle.planner.specs.declared.Planned.the-variants as Planned
+use Rattle.judge.specs.Numbers.{faultSays, noInterval, notOverloaded}
+use Rattle.judge.specs.Promise.{planAnswered, claimAnswered, sumsTold}
 use Rattle.judge.specs.declared.PlanFault.{PlanFault}
+use Rattle.judge.specs.declared.JudgedPlan.{JudgedPlan}
+use Rattle.judge.specs.declared.JudgedPlan.the-variants as Plan
 use Rattle.judge.specs.declared.Sums.{Sums}
 use Rattle.judge.specs.declared.JudgedClaim.{JudgedClaim}
 use Rattle.judge.specs.declared.JudgedClaim.the-variants as Claim
-use Rattle.planner.specs.Promise.{plannedSays, PlansSheet}
-use Rattle.planner.specs.declared.Planned.{Planned}
-use Rattle.planner.specs.declared.Planned.the-variants as Planned
-use Rattle.bench.specs.Promise.{intervalNumber, refusedNumber, foundNumber, undecidedNumber, planNumber, checkNumber, sumsNumber}
+use Rattle.bench.specs.Promise.{numbered, intervalNumber, refusedNumber, answerNumber, undecidedNumber, verdictNumber, checkNumber, sumsNumber}
 
--- ---- refusals
+-- ---- every refusal of a sheet or a table has one number
 
-none-found : (r : Refusal) → refusedNumber ≡ foundNumber (refusalSays r)
-none-found Short = refl
-none-found Mark = refl
-none-found Counts = refl
-none-found Layout = refl
-none-found (Window k) = refl
-none-found (Work k) = refl
+none-numbered : {A : Type 0} (f : A → ℕ) (none : ℕ) (a : Paper A) → Refuses a → none ≡ numbered f none a
+none-numbered f none (gives x) r = absurd r
+none-numbered f none (refuses n) r = refl
+none-numbered f none (refusesAt n place) r = refl
 
-pub search-refused : (a : Searched) (r : Refusal) → a ≡ Searched.Refused r → refusedNumber ≡ foundNumber (searchedSays a)
-search-refused a r e = rw e (none-found r)
+pub write-refused : (a : Written) (r : Refusal) → a ≡ Written.Refused r → 0 ≡ numbered (λ n. n) 0 (writtenSays a)
+write-refused a r e = rw e (none-numbered (λ n. n) 0 (refusalSays r) (refusal-refuses ℕ r))
 
-none-planned : (r : Refusal) → refusedNumber ≡ planNumber (refusalSays r)
-none-planned Short = refl
-none-planned Mark = refl
-none-planned Counts = refl
-none-planned Layout = refl
-none-planned (Window k) = refl
-none-planned (Work k) = refl
+pub search-refused : (a : Searched) (r : Refusal) → a ≡ Searched.Refused r → refusedNumber ≡ numbered answerNumber refusedNumber (searchedSays a)
+search-refused a r e = rw e (none-numbered answerNumber refusedNumber (refusalSays r) (refusal-refuses _ r))
 
-pub plan-refused : (a : Planned) (r : Refusal) → a ≡ Planned.Refused r → refusedNumber ≡ planNumber (plannedSays a)
-plan-refused a r e = rw e (none-planned r)
+pub plan-refused : (a : Planned) (r : Refusal) → a ≡ Planned.Refused r → refusedNumber ≡ numbered verdictNumber refusedNumber (plannedSays a)
+plan-refused a r e = rw e (none-numbered verdictNumber refusedNumber (refusalSays r) (refusal-refuses _ r))
 
 -- ---- intervals
 
-pub search-overloaded : (a : Searched) (o : Overload) (n : ℕ) → a ≡ Searched.Overloaded o → n ≡ intervalNumber (overloadSays o) → n ≡ foundNumber (searchedSays a)
+pub search-overloaded : (a : Searched) (o : Overload) (n : ℕ) → a ≡ Searched.Overloaded o → n ≡ intervalNumber (overloadSays o)
+    → n ≡ numbered answerNumber refusedNumber (searchedSays a)
 unfolding foundSays
 search-overloaded a o n e h = rw e h
 
-pub search-clear : (a : Searched) → a ≡ Searched.Clear → 0 ≡ foundNumber (searchedSays a)
+pub search-clear : (a : Searched) → a ≡ Searched.Clear → 0 ≡ numbered answerNumber refusedNumber (searchedSays a)
 unfolding foundSays
 search-clear a e = rw e
 
-pub plan-overloaded : (a : Planned) (o : Overload) (n : ℕ) → a ≡ Planned.Overloaded o → n ≡ intervalNumber (overloadSays o) → n ≡ planNumber (plannedSays a)
+pub plan-overloaded : (a : Planned) (o : Overload) (n : ℕ) → a ≡ Planned.Overloaded o → n ≡ intervalNumber (overloadSays o)
+    → n ≡ numbered verdictNumber refusedNumber (plannedSays a)
 plan-overloaded a o n e h = rw e h
 
--- ---- an undecided day
+-- ---- undecided days
 
-pub plan-undecided : (a : Planned) (k : ℕ) → a ≡ Planned.Undecided k → undecidedNumber + k ≡ planNumber (plannedSays a)
+pub plan-undecided : (a : Planned) (k : ℕ) → a ≡ Planned.Undecided k → undecidedNumber + k ≡ numbered verdictNumber refusedNumber (plannedSays a)
 plan-undecided a k e = rw e
 
 pub undecided-fits : (a : Planned) (k : ℕ) → ((k : ℕ) → a ≡ Planned.Undecided k → k < mostJobs) → a ≡ Planned.Undecided k → undecidedNumber + k < 2 ^ 64
 undecided-fits a k few e = let below = few k e in omega arith
 
-goes-on : {A : Type 0} (a : Check) (b : Paper A) (x : A) → a else b ≡ gives x → (a ≡ gives tt) × (b ≡ gives x)
-goes-on (gives u) b x e = (refl, e)
-goes-on (refuses n) b x e = let z : _≡_ {A = ℕ} 0 1 = cc in absurd (omega arith)
-goes-on (refusesAt n place) b x e = let z : _≡_ {A = ℕ} 0 1 = cc in absurd (omega arith)
-
-left-over : (f : Found) (c : Choice) (k : ℕ) → byFound f (byUnfinished c) ≡ undecided k → c ≡ job k
-left-over (interval o) c k e = let z : _≡_ {A = ℕ} 0 1 = cc in absurd (omega arith)
-left-over nothing nobody k e = let z : _≡_ {A = ℕ} 0 1 = cc in absurd (omega arith)
-left-over nothing (job m) k e = cc
+left-over : (found : Found) (c : Choice) (k : ℕ) → byFound found (byUnfinished c) ≡ undecided k → c ≡ Job k
+left-over (Found.Interval o) c k e = let z : _≡_ {A = ℕ} 0 1 = cc in absurd (omega arith)
+left-over Found.Nothing Nobody k e = let z : _≡_ {A = ℕ} 0 1 = cc in absurd (omega arith)
+left-over Found.Nothing (Job m) k e = cc
 
 same-verdict : (v w : Verdict) → gives v ≡ gives w → v ≡ w
 same-verdict v w e = cc
 
-pub undecided-few : (s plan : List ℕ) (r : Planned) (after : List ℕ) → PlansSheet s plan r after → (k : ℕ) → r ≡ Planned.Undecided k → k < mostJobs
-unfolding planSheet verdictOf unfinished
+-- the job of an undecided day is one of a table of at most 64
+pub undecided-few : (s plan : List ℕ) (r : Planned) (after : List ℕ) → Plans (onSheet s) plan r after → (k : ℕ) → r ≡ Planned.Undecided k → k < mostJobs
+unfolding planFor verdictOf unfinished
 undecided-few s plan r after plans k told =
-    let says : planSheet s plan ≡ gives (undecided k) = sym (plans .answer) ∙ ap plannedSays told in
-    let first = goes-on (sheetSays s) _ (undecided k) says in
-    let then = goes-on (7 given-when not (eqb (length plan) (slotsIn s))) _ (undecided k) (first .1) in
-    let few = sheet-accepted-exactly s .0 (first .0) .good-table .few-jobs in
-    let t = tableIn s in
-    let end = stateAt t (harvestIn s) (t .slots) in
-    let left = left-over (smallestEnd t (harvestIn s) (t .slots)) (unfinished t end) k (same-verdict _ _ (then .1)) in
-    let below = chosen-passes _ _ (t .count) k left .below in
+    let d = dayIn (onSheet s) in
+    let says : planFor (onSheet s) plan ≡ gives (undecided k) = sym (plans .answer) ∙ ap plannedSays told in
+    let first = else-gave (checkSays (onSheet s)) (wrongPlan when not (eqb (length plan) (d .table .slots)) else gives (verdictOf d)) (undecided k) says in
+    let then = else-gave (wrongPlan when not (eqb (length plan) (d .table .slots))) (gives (verdictOf d)) (undecided k) (first .1) in
+    let few = check-leaves (onSheet s) .0 (first .0) .good-day .few-jobs in
+    let left = left-over (firstOverload d) (unfinished d (stateAt d (d .table .slots))) k (same-verdict _ _ (then .1)) in
+    let below = chosen-passes _ _ (d .table .count) k left .below in
     omega arith
 
 -- ---- kinds
@@ -111,26 +109,32 @@ undecided-few s plan r after plans k told =
 pub kind-told : (kind told : Kind) (n : ℕ) → kind ≡ told → n ≡ kindNumber told + 1 → n ≡ kindNumber kind + 1
 kind-told kind told n e h = rw e h
 
--- ---- the judge
-
-pub refusal-told : (why told : Refusal) (n : ℕ) → why ≡ told → n ≡ checkNumber (refusalSays told) → n ≡ checkNumber (refusalSays why)
-refusal-told why told n e h = rw e h
-
-pub fault-told : (fault told : PlanFault) (n : ℕ) → fault ≡ told → n ≡ checkNumber (faultSays told) → n ≡ checkNumber (faultSays fault)
-fault-told fault told n e h = rw e h
-
 abbrev pub ClaimNumber : JudgedClaim → ℕ → Type 0
-ClaimNumber a n = n ≡ checkNumber (claimAnswered a) + sumsNumber (sumsTold a)
+ClaimNumber r n = n ≡ checkNumber (claimAnswered r) + sumsNumber (sumsTold r)
 
-pub claim-refused : (a : JudgedClaim) (why : Refusal) (n : ℕ) → a ≡ Claim.Refused why → n ≡ checkNumber (refusalSays why) → ClaimNumber a n
-claim-refused a why n e h = rw e (omega arith)
+-- ---- the judge's answers, each by its number and the place that it names
 
-pub claim-no-interval : (a : JudgedClaim) → a ≡ Claim.NoInterval → ClaimNumber a 17
-claim-no-interval a e = rw e
+module _ (number place n : ℕ) (said : n ≡ number + 32 * (place % 2048)) where
+  by-parts : (a : Check) → number ≡ numberOf a → place ≡ placeOf a → n ≡ checkNumber a
+  by-parts a p q = said ∙ ap₂ (λ (x y : ℕ). x + 32 * (y % 2048)) p q
 
-module _ (a : JudgedClaim) (sums : Sums) (n : ℕ) (said : n ≡ sumsNumber sums) where
-  pub claim-not-overloaded : a ≡ Claim.NotOverloaded sums → ClaimNumber a (18 + n)
-  claim-not-overloaded e = rw e (omega arith)
+  pub plan-refused-told : (r : JudgedPlan) (why : Refusal) → r ≡ Plan.Refused why → number ≡ refusalNumber why → place ≡ refusalPlace why → n ≡ checkNumber (planAnswered r)
+  plan-refused-told r why e p q = rw e (by-parts (refusalSays why) p q)
 
-  pub claim-accepted : a ≡ Claim.Accepted sums → ClaimNumber a n
-  claim-accepted e = rw e (omega arith)
+  pub plan-fault-told : (r : JudgedPlan) (f : PlanFault) → r ≡ Plan.Faulty f → number ≡ numberOf (faultSays f) → place ≡ placeOf (faultSays f) → n ≡ checkNumber (planAnswered r)
+  plan-fault-told r f e p q = rw e (by-parts (faultSays f) p q)
+
+  pub claim-refused-told : (r : JudgedClaim) (why : Refusal) → r ≡ Claim.Refused why → number ≡ refusalNumber why → place ≡ refusalPlace why → ClaimNumber r n
+  claim-refused-told r why e p q = let parts = by-parts (refusalSays why) p q in rw e (omega arith)
+
+pub claim-none-told : (r : JudgedClaim) → r ≡ Claim.NoInterval → ClaimNumber r (numberOf noInterval)
+claim-none-told r e = rw e
+
+pub claim-weighed-told : (r : JudgedClaim) (sums : Sums) (m : ℕ) → r ≡ Claim.NotOverloaded sums → m ≡ sumsNumber sums → ClaimNumber r (numberOf notOverloaded + m)
+claim-weighed-told r sums m e h = rw e (omega arith)
+
+pub plan-accepted-told : (r : JudgedPlan) → r ≡ Plan.Accepted → 0 ≡ checkNumber (planAnswered r)
+plan-accepted-told r e = rw e
+
+pub claim-accepted-told : (r : JudgedClaim) (sums : Sums) (m : ℕ) → r ≡ Claim.Accepted sums → m ≡ sumsNumber sums → ClaimNumber r m
+claim-accepted-told r sums m e h = rw e (omega arith)

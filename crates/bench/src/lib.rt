@@ -5,22 +5,18 @@ use demand::Overload;
 use demand::Searched;
 use judge::JudgedClaim;
 use judge::JudgedPlan;
-use judge::PlanFault;
 use judge::Sums;
 use planner::Planned;
-use sheet::Refusal;
 use writer::Written;
 ghost use mathlib.Core.Path.{_≡_};
 ghost use Prim.Native.Nat.{ℕ, _+_, _*_, _%_, _<_, _≤_};
-ghost use Rattle.sheet.specs.Refusals.{refusalSays};
 ghost use Rattle.sheet.specs.Table.{mostJobs};
 ghost use Rattle.demand.specs.Demand.{kindNumber};
 ghost use Rattle.demand.specs.Search.{searchedSays, overloadSays};
-ghost use Rattle.judge.specs.Numbers.{faultSays};
 ghost use Rattle.judge.specs.Promise.{planAnswered, claimAnswered, sumsTold};
 ghost use Rattle.planner.specs.Promise.{plannedSays};
 ghost use Rattle.writer.specs.Promise.{writtenSays};
-ghost use Rattle.bench.specs.Promise.{lengthOr0, intervalNumber, foundNumber, planNumber, checkNumber, sumsNumber, ThereAndBack, Searches, Plans, FirstSteps, JudgesPlan, JudgesClaim};
+ghost use Rattle.bench.specs.Promise.{numbered, intervalNumber, refusedNumber, answerNumber, verdictNumber, checkNumber, sumsNumber, ThereAndBack, SearchesYielded, PlansSheet, FirstSteps, JudgesSheetPlan, JudgesSheetClaim};
 
 // The numbers beside an interval's: a refusal's, and an undecided day's with its job 0.
 const REFUSED: u64 = 1 << 40;
@@ -29,7 +25,7 @@ const UNDECIDED: u64 = 1 << 41;
 
 // The length of the sheet that was written; 0 where it was refused.
 fn length_or_0(answer: Written) -> u64
-    ensures { λ r. ⌜ r ≡ lengthOr0 (writtenSays answer) ⌝ }
+    ensures { λ r. ⌜ r ≡ numbered (λ n. n) 0 (writtenSays answer) ⌝ }
 {
     match answer {
         Written::Length(length) => length as u64,
@@ -71,7 +67,7 @@ fn interval_number(o: Overload) -> u64
 
 // The search's answer as one number.
 fn found_number(answer: Searched) -> u64
-    ensures { λ r. ⌜ r ≡ foundNumber (searchedSays answer) ⌝ }
+    ensures { λ r. ⌜ r ≡ numbered answerNumber refusedNumber (searchedSays answer) ⌝ }
 {
     match answer {
         Searched::Refused(_) => REFUSED,
@@ -85,7 +81,7 @@ fn found_number(answer: Searched) -> u64
 // search refuses it too.
 #[no_mangle]
 pub extern "C" fn gishronek_search(bytes: &[u8]) -> u64
-    ensures { λ r. ⌜ Searches (now (bytes .entry)) r ⌝ }
+    ensures { λ r. ⌜ SearchesYielded (now (bytes .entry)) r ⌝ }
 {
     let reading = reader::read(bytes);
     let harvest = reader::stretch(bytes, reading.table.count, reading.table.slots);
@@ -95,7 +91,7 @@ pub extern "C" fn gishronek_search(bytes: &[u8]) -> u64
 // The planner's answer as one number, where an undecided day's job is one of a table's.
 fn plan_number(answer: Planned) -> u64
     requires { ⌜ ((k : ℕ) → answer ≡ Planned.Undecided k → k < mostJobs) ⌝ }
-    ensures { λ r. ⌜ r ≡ planNumber (plannedSays answer) ⌝ }
+    ensures { λ r. ⌜ r ≡ numbered verdictNumber refusedNumber (plannedSays answer) ⌝ }
 {
     match answer {
         Planned::Refused(_) => REFUSED,
@@ -111,7 +107,7 @@ fn plan_number(answer: Planned) -> u64
 // the length of `plan` is refused. In the last two cases every byte of `plan` is what it was.
 #[no_mangle]
 pub extern "C" fn gishronek_plan(bytes: &[u8], plan: &mut [u8]) -> u64
-    ensures { λ r. ⌜ Plans (now (bytes .entry)) (now (plan .entry)) r (now (plan .exit)) ⌝ }
+    ensures { λ r. ⌜ PlansSheet (now (bytes .entry)) (now (plan .entry)) r (now (plan .exit)) ⌝ }
 {
     plan_number(planner::plan_sheet(bytes, plan))
 }
@@ -137,40 +133,11 @@ const PLACES: usize = 2048;
 
 const A_PLACE: u64 = 32;
 
-// A refusal that names a place, as one number.
-fn number_at(number: u64, place: usize) -> u64
-    requires { ⌜ number < 32 ⌝ }
+// A refusal's number, and the place that it names or 0, as one number.
+fn number_at(number: u8, place: usize) -> u64
     ensures { λ r. ⌜ r ≡ number + 32 * (place % 2048) ⌝ }
 {
-    number + A_PLACE * ((place % PLACES) as u64)
-}
-
-// A refusal of a sheet as one number.
-fn refusal_number(why: Refusal) -> u64
-    ensures { λ r. ⌜ r ≡ checkNumber (refusalSays why) ⌝ }
-{
-    match why {
-        Refusal::Short => 1,
-        Refusal::Mark => 2,
-        Refusal::Counts => 3,
-        Refusal::Layout => 4,
-        Refusal::Window(k) => number_at(5, k),
-        Refusal::Work(k) => number_at(6, k),
-    }
-}
-
-// A refusal of a plan as one number.
-fn fault_number(fault: PlanFault) -> u64
-    ensures { λ r. ⌜ r ≡ checkNumber (faultSays fault) ⌝ }
-{
-    match fault {
-        PlanFault::WrongLength => 11,
-        PlanFault::NoJob(i) => number_at(12, i),
-        PlanFault::OutsideWindow(i) => number_at(13, i),
-        PlanFault::HasAllSlots(i) => number_at(14, i),
-        PlanFault::LacksCharge(i) => number_at(15, i),
-        PlanFault::LacksSlots(k) => number_at(16, k),
-    }
+    number as u64 + A_PLACE * ((place % PLACES) as u64)
 }
 
 // The judge's answer to a plan as one number.
@@ -178,8 +145,8 @@ fn judged_plan_number(answer: JudgedPlan) -> u64
     ensures { λ r. ⌜ r ≡ checkNumber (planAnswered answer) ⌝ }
 {
     match answer {
-        JudgedPlan::Refused(why) => refusal_number(why),
-        JudgedPlan::Faulty(fault) => fault_number(fault),
+        JudgedPlan::Refused(why) => number_at(sheet::number(why), sheet::place(why)),
+        JudgedPlan::Faulty(fault) => number_at(judge::number(fault), judge::place(fault)),
         JudgedPlan::Accepted => 0,
     }
 }
@@ -188,7 +155,7 @@ fn judged_plan_number(answer: JudgedPlan) -> u64
 // the refusal's number, and 32 times the place that it names. No byte is written.
 #[no_mangle]
 pub extern "C" fn gishronek_judge_plan(bytes: &[u8], plan: &[u8]) -> u64
-    ensures { λ r. ⌜ JudgesPlan (now (bytes .entry)) (now (plan .entry)) r ⌝ }
+    ensures { λ r. ⌜ JudgesSheetPlan (now (bytes .entry)) (now (plan .entry)) r ⌝ }
 {
     judged_plan_number(judge::plan_on_sheet(bytes, plan))
 }
@@ -215,9 +182,9 @@ fn judged_claim_number(answer: JudgedClaim) -> u64
     ensures { λ r. ⌜ r ≡ checkNumber (claimAnswered answer) + sumsNumber (sumsTold answer) ⌝ }
 {
     match answer {
-        JudgedClaim::Refused(why) => refusal_number(why),
-        JudgedClaim::NoInterval => 17,
-        JudgedClaim::NotOverloaded(sums) => 18 + sums_number(sums),
+        JudgedClaim::Refused(why) => number_at(sheet::number(why), sheet::place(why)),
+        JudgedClaim::NoInterval => judge::NO_INTERVAL as u64,
+        JudgedClaim::NotOverloaded(sums) => judge::NOT_OVERLOADED as u64 + sums_number(sums),
         JudgedClaim::Accepted(sums) => sums_number(sums),
     }
 }
@@ -228,7 +195,7 @@ fn judged_claim_number(answer: JudgedClaim) -> u64
 // the supply that were weighed, both 0 where nothing was.
 #[no_mangle]
 pub extern "C" fn gishronek_judge_claim(bytes: &[u8], kind: u64, start: u64, end: u64) -> u64
-    ensures { λ r. ⌜ JudgesClaim (now (bytes .entry)) kind start end r ⌝ }
+    ensures { λ r. ⌜ JudgesSheetClaim (now (bytes .entry)) kind start end r ⌝ }
 {
     judged_claim_number(judge::claim_on_sheet(bytes, kind, start, end))
 }

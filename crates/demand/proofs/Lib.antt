@@ -1,5 +1,4 @@
 pub mod Findings
 pub mod Loops
-pub mod Promised
 pub mod Shrinking
 pub mod Theorems

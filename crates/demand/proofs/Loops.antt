@@ -1,297 +1,230 @@
 -- What the loops keep, and what that comes to at their end.
-use Prim.Native.Nat.{ℕ, _+_, _-_, _*_, _<_, _≤_}
-use mathlib.Core.Path.{_≡_, refl, sym, ap, ap₂, _∙_, subst}
+use Prim.Native.Nat.{ℕ, zero, suc, _+_, _<_, _≤_}
+use mathlib.Core.Path.{_≡_, refl, sym, ap, _∙_, subst}
 use mathlib.Core.Bool.{Bool, true, false, cond, _&&_}
 use mathlib.Core.List.{List}
-use mathlib.Core.Logic.{_⊎_, inl, inr, ⊎-elim}
+use mathlib.Core.Logic.{⊎-elim}
 use native.Mathlib.Nat.{not-suc-le-zero}
-use native.Mathlib.Decide.{decLt}
+use native.Mathlib.Numerals.{add-one}
+use native.Mathlib.Decide.{decLe}
 use native.Mathlib.Omega.{arith}
 use lib.Dec.{leb}
-use lib.ListN.{getD}
+use lib.ListN.{length, getD, set, length-set}
+use lib.Seq.{getD-set-same, getD-set-other}
 use borrow.Author.Count.{below-more}
 use Rattle.sheet.proofs.Exactly.{either}
-use Rattle.sheet.proofs.Sums.{total-more, total-bound, harvest-by-totals}
-use Rattle.sheet.specs.Sums.{totalOf, harvestAt, harvestOf}
-use Rattle.sheet.specs.Table.{mostSlots, countedAs, jobOf}
+use Rattle.sheet.proofs.Sums.{total-more}
+use Rattle.sheet.specs.Sums.{totalOf, mostCost}
+use Rattle.sheet.specs.Table.{jobOf, Day}
 use Rattle.sheet.specs.declared.Table.{Table}
-use Rattle.demand.specs.Demand.{within, timeDemand, energyDemand, energySupply, overloaded}
-use Rattle.demand.specs.Search.{Found, interval, nothing, isRelease, isDeadline, foundAt, latestStart, smallestEnd}
-use Rattle.demand.specs.Steps.{largestU8, DayOf, findingOf, supplyBy, foundBy, laterOf, NextDeadline}
-use Rattle.demand.specs.declared.Latest.{Latest}
+use Rattle.demand.specs.Demand.{within, shareOf}
+use Rattle.demand.specs.Search.{isDeadline, foundAt, latestStart, smallestEnd}
+use Rattle.demand.specs.Steps.{dueAt, mostDue, DueBy, NextDeadline}
+use Rattle.demand.specs.declared.Kind.{Kind}
+use Rattle.demand.specs.declared.Kind.the-variants.{Time, Energy}
+use Rattle.demand.specs.declared.Found.{Found}
+use Rattle.demand.specs.declared.Found.the-variants as Found
 use Rattle.demand.specs.declared.Overload.{Overload}
-use Rattle.demand.specs.declared.Finding.{Finding}
-use Rattle.demand.specs.declared.Finding.the-variants.{Interval, Nothing}
-use Rattle.demand.proofs.Findings.{is-release, release-of, is-deadline, deadline-of, startAt, found-or-not, when-nothing, latest-none, latest-here, endAt, smallest-none, smallest-here}
+use Rattle.demand.proofs.Findings.{release-exactly, deadline-exactly, startAt}
 
--- ---- the next deadline, among the first k jobs
+-- what the jobs of an interval demand, of the first n jobs
+abbrev pub demandUpTo : Kind → Table → ℕ → ℕ → ℕ → ℕ
+demandUpTo kind t from to n = totalOf (λ k. within from to (jobOf t k)) (λ k. shareOf kind (jobOf t k)) n
+
+-- one job more, by its release and by what is due of it as the code reads them
+pub demand-more : (kind : Kind) (t : Table) (from to n release amount more : ℕ) → release ≡ jobOf t n .release
+    → amount ≡ cond (leb (jobOf t n .deadline) to) (shareOf kind (jobOf t n)) 0 → more ≡ cond (leb from release) amount 0
+    → demandUpTo kind t from to (n + 1) ≡ demandUpTo kind t from to n + more
+demand-more kind t from to n release amount more p q r =
+    let split = both (leb from (jobOf t n .release)) (leb (jobOf t n .deadline) to) (shareOf kind (jobOf t n)) in
+    let e : cond (within from to (jobOf t n)) (shareOf kind (jobOf t n)) 0 ≡ more = cc in
+    total-more _ n ∙ ap (λ (x : ℕ). demandUpTo kind t from to n + x) e
+  where
+    both : (a b : Bool) (x : ℕ) → cond (a && b) x 0 ≡ cond a (cond b x 0) 0
+    both true b x = refl
+    both false b x = refl
+
+-- ---- what is due, while it is set
+
+pub due-none : (t : Table) (to : ℕ) (due : List ℕ) → length due ≡ 128 → DueBy t 0 to due
+due-none t to due long = record { long = long; share = λ kind k h. absurd (not-suc-le-zero h); small = λ kind k h. absurd (not-suc-le-zero h) }
+
+module _ (t : Table) (to n : ℕ) (due : List ℕ) (slots costs : ℕ) where
+  abbrev amount : Kind → ℕ
+  amount Time = slots
+  amount Energy = costs
+
+  abbrev dueOf : Kind → ℕ
+  dueOf kind = cond (leb (jobOf t n .deadline) to) (shareOf kind (jobOf t n)) 0
+
+  abbrev stored : List ℕ
+  stored = set (set due n slots) (64 + n) costs
+
+  pub due-more : n < 64 → DueBy t n to due → slots ≡ dueOf Time → costs ≡ dueOf Energy → slots ≤ 65535 → costs ≤ mostCost → DueBy t (n + 1) to stored
+  due-more few before p q most-slots most-costs =
+      record {
+        long = simp length-set (before .long);
+        share = λ kind. below-more (λ k. getD stored (dueAt kind k) 0 ≡ cond (leb (jobOf t k .deadline) to) (shareOf kind (jobOf t k)) 0) n (λ k h. kept kind k h ∙ before .share kind k h) (new kind ∙ is kind);
+        small = λ kind. below-more (λ k. getD stored (dueAt kind k) 0 ≤ mostDue kind) n (λ k h. rw (kept kind k h) (before .small kind k h)) (rw (new kind) (most kind));
+      }
+    where
+      other : (i : ℕ) → (i ≡ n → ⊥) → (i ≡ 64 + n → ⊥) → getD stored i 0 ≡ getD due i 0
+      other i p q = getD-set-other (set due n slots) (64 + n) i costs 0 q ∙ getD-set-other due n i slots 0 p
+
+      kept : (kind : Kind) (k : ℕ) → k < n → getD stored (dueAt kind k) 0 ≡ getD due (dueAt kind k) 0
+      kept Time k h = other k (λ e. omega arith) (λ e. omega arith)
+      kept Energy k h = other (64 + k) (λ e. omega arith) (λ e. omega arith)
+
+      new : (kind : Kind) → getD stored (dueAt kind n) 0 ≡ amount kind
+      new Time = getD-set-other (set due n slots) (64 + n) n costs 0 (λ e. omega arith) ∙ getD-set-same due n slots 0 (omega (arith, before .long))
+      new Energy = getD-set-same (set due n slots) (64 + n) costs 0 (simp length-set (omega (arith, before .long)))
+
+      is : (kind : Kind) → amount kind ≡ dueOf kind
+      is Time = p
+      is Energy = q
+
+      most : (kind : Kind) → amount kind ≤ mostDue kind
+      most Time = most-slots
+      most Energy = most-costs
+
+-- ---- the next deadline
 
 module _ (t : Table) (after : ℕ) where
-  pub record NextSoFar (k next : ℕ) : Type 0 where
-    pub later : after < next
-    pub in-day : next ≤ t .slots + 1
-    pub is-one : next ≤ t .slots → isDeadline t next ≡ true
-    pub none-nearer : (i : ℕ) → i < k → after < jobOf t i .deadline → next ≤ jobOf t i .deadline
-
-  pub next-none : after ≤ t .slots → NextSoFar 0 (t .slots + 1)
+  pub next-none : after ≤ t .slots → NextDeadline t 0 after (t .slots + 1)
   next-none h =
       record { later = omega arith; in-day = omega arith; is-one = λ l. absurd (omega arith); none-nearer = λ i l. absurd (not-suc-le-zero l) }
 
   -- job k's deadline, as the code reads it
-  module _ (k next own : ℕ) (is : own ≡ jobOf t k .deadline) (s : NextSoFar k next) where
-    pub next-stays : (after < own → next ≤ own) → NextSoFar (k + 1) next
+  module _ (k next own : ℕ) (is : own ≡ jobOf t k .deadline) (s : NextDeadline t k after next) where
+    pub next-stays : (after < own → next ≤ own) → NextDeadline t (k + 1) after next
     next-stays h =
         record {
           later = s .later;
           in-day = s .in-day;
           is-one = s .is-one;
-          none-nearer =
-              below-more (λ i. after < jobOf t i .deadline → next ≤ jobOf t i .deadline) k (s .none-nearer)
-              (subst (λ (d : ℕ). after < d → next ≤ d) is h);
+          none-nearer = below-more _ k (s .none-nearer) (subst (λ (d : ℕ). after < d → next ≤ d) is h);
         }
 
-    pub next-moves : k < t .count → after < own → own < next → NextSoFar (k + 1) own
+    pub next-moves : k < t .count → after < own → own < next → NextDeadline t (k + 1) after own
     next-moves h a b =
         record {
           later = a;
           in-day = let d = s .in-day in omega arith;
-          is-one = λ l. subst (λ (d : ℕ). isDeadline t d ≡ true) (sym is) (is-deadline t k h);
+          is-one = λ l. (k, h, sym is);
           none-nearer =
               below-more (λ i. after < jobOf t i .deadline → own ≤ jobOf t i .deadline) k
               (λ i l m. let n = s .none-nearer i l m in omega arith)
               (λ l. omega arith);
         }
 
-  pub next-found : (next : ℕ) → NextSoFar (t .count) next → NextDeadline t after next
-  next-found next s =
-      record {
-        later = s .later;
-        in-day = s .in-day;
-        is-one = s .is-one;
-        none-between =
-            λ slot a b.
-            ⊎-elim
-            (λ e.
-            let w = deadline-of t slot e in
-            let same = w .2 in
-            let n = s .none-nearer (w .0) (w .1) (omega arith) in
-            absurd (omega arith))
-            (λ e. e)
-            (either (isDeadline t slot));
-      }
+module _ (d : Day) where
+  when-nothing : (b : Bool) (x : Found) → (b ≡ true → x ≡ Found.Nothing) → cond b x Found.Nothing ≡ Found.Nothing
+  when-nothing true x e = e refl
+  when-nothing false x e = refl
 
--- ---- the demands of an interval, of the first n jobs
+  -- ---- the latest start: what is found is found below `earliest`, and the jobs before k give no later one
 
-counted-more : (test : ℕ → Bool) (f : ℕ → ℕ) (n : ℕ) (counts : Bool) (amount more : ℕ) → counts ≡ test n → amount ≡ f n → more ≡ cond counts amount 0
-    → totalOf test f (n + 1) ≡ totalOf test f n + more
-counted-more test f n counts amount more p q r =
-    total-more _ n ∙ ap (λ (x : ℕ). totalOf test f n + x) (sym (r ∙ ap₂ (λ (b : Bool) (x : ℕ). cond b x 0) p q))
+  pub record LatestSoFar (to k : ℕ) (latest : Found) (earliest : ℕ) : Type 0 where
+    pub in-time : earliest ≤ to
+    pub is-it : latestStart d to earliest ≡ latest
+    pub none-later : (i : ℕ) → i < k → earliest ≤ jobOf (d .table) i .release → jobOf (d .table) i .release < to
+        → foundAt d (jobOf (d .table) i .release) to ≡ Found.Nothing
 
-abbrev pub timeUpTo : Table → ℕ → ℕ → ℕ → ℕ
-timeUpTo t from to n = totalOf (λ k. within from to (jobOf t k)) (λ k. jobOf t k .wanted) n
-
-abbrev pub energyUpTo : Table → ℕ → ℕ → ℕ → ℕ
-energyUpTo t from to n = totalOf (λ k. within from to (jobOf t k)) (λ k. jobOf t k .wanted * jobOf t k .energy) n
-
-module _ (t : Table) (from to n : ℕ) where
-  pub time-more : (counts : Bool) (amount more : ℕ) → counts ≡ within from to (jobOf t n) → amount ≡ jobOf t n .wanted → more ≡ cond counts amount 0
-      → timeUpTo t from to (n + 1) ≡ timeUpTo t from to n + more
-  time-more = counted-more (λ k. within from to (jobOf t k)) (λ k. jobOf t k .wanted) n
-
-  pub energy-more : (counts : Bool) (amount more : ℕ) → counts ≡ within from to (jobOf t n) → amount ≡ jobOf t n .wanted * jobOf t n .energy → more ≡ cond counts amount 0
-      → energyUpTo t from to (n + 1) ≡ energyUpTo t from to n + more
-  energy-more = counted-more (λ k. within from to (jobOf t k)) (λ k. jobOf t k .wanted * jobOf t k .energy) n
-
-  -- a job is within, by its release and deadline as the code reads them
-  pub within-read : (counts : Bool) (release deadline : ℕ) → release ≡ jobOf t n .release → deadline ≡ jobOf t n .deadline
-      → counts ≡ (leb from release && leb deadline to) → counts ≡ within from to (jobOf t n)
-  within-read counts release deadline p q e = e ∙ ap₂ (λ (a b : ℕ). leb from a && leb b to) p q
-
-  pub time-all : n ≡ t .count → timeUpTo t from to n ≡ timeDemand t from to
-  unfolding timeDemand
-  time-all e = ap (timeUpTo t from to) e
-
-  pub energy-all : n ≡ t .count → energyUpTo t from to n ≡ energyDemand t from to
-  unfolding energyDemand
-  energy-all e = ap (energyUpTo t from to) e
-
--- ---- one interval, by running totals
-
-abbrev pub foundIn : Table → List ℕ → ℕ → ℕ → Found
-foundIn t totals to from = foundBy from to (timeDemand t from to) (energyDemand t from to) (supplyBy (t .capacity) totals from to)
-
-pub found-by-numbers : (t : Table) (totals : List ℕ) (from to time energy supply : ℕ) → time ≡ timeDemand t from to → energy ≡ energyDemand t from to
-    → supply ≡ supplyBy (t .capacity) totals from to → foundBy from to time energy supply ≡ foundIn t totals to from
-found-by-numbers t totals from to time energy supply p q r = rw (p, q, r)
-
-counted-at-most : (byte : ℕ) → byte < 256 → countedAs byte ≤ largestU8
-counted-at-most byte h = omega arith
-
--- an entry is at most 255 for each slot
-pub totals-fit : (t : Table) (harvest totals : List ℕ) → DayOf t harvest totals → (to : ℕ) → to ≤ t .slots → getD totals to 0 ≤ largestU8 * mostSlots
-totals-fit t harvest totals day to l =
-    let fits = day .good .harvest-fits in
-    let few = day .good .few-slots in
-    let is = day .sums to (omega arith) (omega arith) in
-    let most = total-bound (harvestAt harvest) largestU8 to (λ k i. counted-at-most _ (day .bytes k)) in
-    omega arith
-
-module _ (t : Table) (harvest totals : List ℕ) (day : DayOf t harvest totals) (from to : ℕ) (h : from ≤ to) (l : to ≤ t .slots) where
-  totals-apart : getD totals to 0 ≡ getD totals from 0 + harvestOf harvest from to
-  totals-apart =
-      let fits = day .good .harvest-fits in
-      let few = day .good .few-slots in
-      harvest-by-totals harvest totals (day .sums) from to h (omega arith) (omega arith)
-
-  pub totals-grow : getD totals from 0 ≤ getD totals to 0
-  totals-grow = let apart = totals-apart in omega arith
-
-  supply-by : supplyBy (t .capacity) totals from to ≡ energySupply t harvest from to
-  unfolding energySupply
-  supply-by = let apart = totals-apart in omega arith
-
-  pub found-in : foundIn t totals to from ≡ foundAt t harvest from to
-  unfolding foundBy foundAt overloaded
-  found-in = rw supply-by
-
--- ---- the latest start, among the releases of the first k jobs
-
-module _ (t : Table) (found : ℕ → Found) (to : ℕ) where
-  -- the answer's start, which is the release of a job
-  pub record Start (o : Overload) (earliest from : ℕ) : Type 0 where
-    pub next : earliest ≡ from + 1
-    pub in-time : from < to
-    pub release : isRelease t from ≡ true
-    pub gives : found from ≡ interval o
-
-  abbrev pub Held : Finding → ℕ → Type 0
-  Held held earliest = ((held ≡ Nothing) × (earliest ≡ 0)) ⊎ ((o : Overload) × (held ≡ Interval o) × ((from : ℕ) × Start o earliest from))
-
-  pub record LatestSoFar (k : ℕ) (latest : Latest) : Type 0 where
-    pub held : Held (latest .found) (latest .earliest)
-    pub none-later : (i : ℕ) → i < k → latest .earliest ≤ jobOf t i .release → jobOf t i .release < to → found (jobOf t i .release) ≡ nothing
-
-  pub latest-at-first : LatestSoFar 0 (record { found = Nothing; earliest = 0 })
-  latest-at-first = record { held = inl (refl, refl); none-later = λ i l. absurd (not-suc-le-zero l) }
-
-  latest-stays : (k : ℕ) (latest : Latest) → LatestSoFar k latest
-      → (latest .earliest ≤ jobOf t k .release → jobOf t k .release < to → found (jobOf t k .release) ≡ nothing) → LatestSoFar (k + 1) latest
-  latest-stays k latest s h =
-      record {
-        held = s .held;
-        none-later =
-            below-more (λ i. latest .earliest ≤ jobOf t i .release → jobOf t i .release < to → found (jobOf t i .release) ≡ nothing) k (s .none-later) h;
-      }
-
-  latest-moves : (k : ℕ) (latest : Latest) → LatestSoFar k latest → k < t .count → latest .earliest ≤ jobOf t k .release → jobOf t k .release < to
-      → LatestSoFar (k + 1) (laterOf (jobOf t k .release) (found (jobOf t k .release)) latest)
-  latest-moves k latest s h a b =
-      ⊎-elim
-      (λ e.
-      subst (λ (x : Found). LatestSoFar (k + 1) (laterOf (jobOf t k .release) x latest)) (sym e)
-      (latest-stays k latest s (λ l m. e)))
-      (λ w.
-      subst (λ (x : Found). LatestSoFar (k + 1) (laterOf (jobOf t k .release) x latest)) (sym (w .1))
-      (record {
-        held = inr (w .0, refl, (jobOf t k .release, record { next = refl; in-time = b; release = is-release t k h; gives = w .1 }));
-        none-later =
-            below-more (λ i. jobOf t k .release + 1 ≤ jobOf t i .release → jobOf t i .release < to → found (jobOf t i .release) ≡ nothing) k
-            (λ i l m. s .none-later i l (omega arith))
-            (λ l m. absurd (omega arith));
-      }))
-      (found-or-not (found (jobOf t k .release)))
+  pub latest-first : (to : ℕ) → LatestSoFar to 0 Found.Nothing 0
+  unfolding latestStart
+  latest-first to = record { in-time = omega arith; is-it = refl; none-later = λ i l. absurd (not-suc-le-zero l) }
 
   -- job k's release, as the code reads it
-  module _ (k from : ℕ) (is : from ≡ jobOf t k .release) (latest : Latest) (s : LatestSoFar k latest) where
-    pub latest-skipped : (latest .earliest ≤ from → from < to → ⊥) → LatestSoFar (k + 1) latest
-    latest-skipped h = latest-stays k latest s (λ l m. absurd (subst (λ (n : ℕ). latest .earliest ≤ n → n < to → ⊥) is h l m))
+  module _ (to k from : ℕ) (is : from ≡ jobOf (d .table) k .release) (latest : Found) (earliest : ℕ) (s : LatestSoFar to k latest earliest) where
+    pub latest-stays : (earliest ≤ from → from < to → foundAt d from to ≡ Found.Nothing) → LatestSoFar to (k + 1) latest earliest
+    latest-stays h =
+        record {
+          in-time = s .in-time;
+          is-it = s .is-it;
+          none-later = below-more _ k (s .none-later) (subst (λ (n : ℕ). earliest ≤ n → n < to → foundAt d n to ≡ Found.Nothing) is h);
+        }
 
-    -- what was compared and what came of it under their own names
-    pub latest-compared : (moved : Latest) (x : Found) → k < t .count → latest .earliest ≤ from → from < to → x ≡ found from
-        → moved ≡ laterOf from x latest → LatestSoFar (k + 1) moved
-    latest-compared moved x h a b e m =
-        rw (m, e, is)
-        (latest-moves k latest s h (subst (λ (n : ℕ). latest .earliest ≤ n) is a) (subst (λ (n : ℕ). n < to) is b))
+    pub latest-moves : (found : Found) (o : Overload) → k < d .table .count → earliest ≤ from → from < to → found ≡ foundAt d from to → found ≡ Found.Interval o
+        → LatestSoFar to (k + 1) found (from + 1)
+    unfolding latestStart
+    latest-moves found o h a b e is-o =
+        record {
+          in-time = omega arith;
+          is-it = rw (add-one from, release-exactly d from .1 (k, h, sym is), sym e ∙ is-o) (sym is-o);
+          none-later =
+              below-more (λ i. from + 1 ≤ jobOf (d .table) i .release → jobOf (d .table) i .release < to → foundAt d (jobOf (d .table) i .release) to ≡ Found.Nothing) k
+              (λ i l m. s .none-later i l (omega arith))
+              (λ l m. absurd (omega arith));
+        }
 
-  pub latest-found : (harvest : List ℕ) (latest : Latest) → ((from : ℕ) → from < to → found from ≡ foundAt t harvest from to)
-      → LatestSoFar (t .count) latest → latest .found ≡ findingOf (latestStart t harvest to to)
-  latest-found harvest latest same s =
-      ⊎-elim
-      (λ w.
-      let first = w .1 in
-      w .0 ∙ sym (ap findingOf (latest-none t harvest to to (λ i h. none i h (omega arith)))))
-      (λ w.
-      let start = w .2 .1 in
-      let from = w .2 .0 in
-      let after = start .next in
-      w .1
+  -- starts that give nothing change nothing
+  starts-pass : (to m n : ℕ) → m ≤ n → ((i : ℕ) → m ≤ i → i < n → startAt d to i ≡ Found.Nothing) → latestStart d to n ≡ latestStart d to m
+  unfolding latestStart
+  starts-pass to m zero h none = let e : zero ≡ m = omega arith in ap (latestStart d to) e
+  starts-pass to m (suc n) h none =
+      elim (decLe m n) [
+        | yes l ↦ rw (none n l (omega arith)) (starts-pass to m n l (λ i a b. none i a (omega arith)))
+        | no l ↦ let e : suc n ≡ m = omega arith in ap (latestStart d to) e
+      ]
+
+  pub latest-found : (to : ℕ) (latest : Found) (earliest : ℕ) → LatestSoFar to (d .table .count) latest earliest → latest ≡ latestStart d to to
+  latest-found to latest earliest s =
+      sym (s .is-it)
       ∙ sym
-      (ap findingOf
-      (latest-here t harvest to to from (w .0)
-      (record {
-        below = start .in-time;
-        gives = rw (start .release) (sym (same from (start .in-time)) ∙ start .gives);
-        none-later = λ i h l. none i h (omega arith);
-      }))))
-      (s .held)
-    where
-      none : (i : ℕ) → i < to → latest .earliest ≤ i → startAt t harvest to i ≡ nothing
-      none i h l =
-          when-nothing _ _
-          (λ r.
-          let w = release-of t i r in
-          let k = w .0 in
-          sym (same i h)
-          ∙ subst (λ (n : ℕ). latest .earliest ≤ n → n < to → found n ≡ nothing) (w .2) (s .none-later k (w .1)) l h)
+      (starts-pass to earliest to (s .in-time)
+      (λ i a b.
+      when-nothing _ _
+      (λ r.
+      let w = release-exactly d i .0 r in
+      subst (λ (n : ℕ). earliest ≤ n → n < to → foundAt d n to ≡ Found.Nothing) (w .2) (s .none-later (w .0) (w .1)) a b)))
 
--- ---- the ends up to one deadline
+  -- ---- the ends
 
-pub finding-interval : (o : Overload) (held : Finding) (x : Found) → held ≡ Interval o → held ≡ findingOf x → x ≡ interval o
-finding-interval o held nothing p q = cc
-finding-interval o held (interval r) p q = cc
+  pub ends-first : smallestEnd d 0 ≡ Found.Nothing
+  unfolding smallestEnd
+  ends-first = refl
 
-pub finding-nothing : (held : Finding) (x : Found) → held ≡ Nothing → held ≡ findingOf x → x ≡ nothing
-finding-nothing held nothing p q = refl
-finding-nothing held (interval r) p q = cc
+  ends-pass : (m n : ℕ) → m ≤ n → smallestEnd d m ≡ Found.Nothing → ((i : ℕ) → m < i → i ≤ n → isDeadline d i ≡ false) → smallestEnd d n ≡ Found.Nothing
+  unfolding smallestEnd
+  ends-pass m zero h e none = let same : m ≡ zero = omega arith in subst (λ (i : ℕ). smallestEnd d i ≡ Found.Nothing) same e
+  ends-pass m (suc n) h e none =
+      elim (decLe m n) [
+        | yes l ↦ rw (ends-pass m n l e (λ i a b. none i a (omega arith)), none (suc n) (omega arith) (omega arith))
+        | no l ↦ let same : m ≡ suc n = omega arith in subst (λ (i : ℕ). smallestEnd d i ≡ Found.Nothing) same e
+      ]
 
-module _ (t : Table) (totals : List ℕ) where
-  -- no end before this deadline gives anything
-  pub record EndsSoFar (to : ℕ) : Type 0 where
-    pub above : 1 ≤ to
-    pub is-one : to ≤ t .slots → isDeadline t to ≡ true
-    pub none-earlier : (harvest : List ℕ) → DayOf t harvest totals → (i : ℕ) → 1 ≤ i → i < to → endAt t harvest i ≡ nothing
+  pub ends-stay : (m n : ℕ) (o : Overload) → m ≤ n → smallestEnd d m ≡ Found.Interval o → smallestEnd d n ≡ Found.Interval o
+  unfolding smallestEnd
+  ends-stay m zero o h e = let same : m ≡ zero = omega arith in subst (λ (i : ℕ). smallestEnd d i ≡ Found.Interval o) same e
+  ends-stay m (suc n) o h e =
+      elim (decLe m n) [
+        | yes l ↦ rw (ends-stay m n o l e)
+        | no l ↦ let same : m ≡ suc n = omega arith in subst (λ (i : ℕ). smallestEnd d i ≡ Found.Interval o) same e
+      ]
 
-  no-end : (harvest : List ℕ) (slot : ℕ) → isDeadline t slot ≡ false → endAt t harvest slot ≡ nothing
-  no-end harvest slot e = ap (λ (b : Bool). cond b (latestStart t harvest slot slot) nothing) e
+  -- nothing is found up to slot `after`, and the next deadline is known
+  module _ (after next : ℕ) (none : smallestEnd d after ≡ Found.Nothing) (is : NextDeadline (d .table) (d .table .count) after next) where
+    no-deadline : (i : ℕ) → after < i → i < next → isDeadline d i ≡ false
+    no-deadline i a b =
+        ⊎-elim
+        (λ e.
+        let w = deadline-exactly d i .0 e in
+        let same = w .2 in
+        let n = is .none-nearer (w .0) (w .1) (omega arith) in
+        absurd (omega arith))
+        (λ e. e)
+        (either (isDeadline d i))
 
-  pub ends-at-first : (next : ℕ) → NextDeadline t 0 next → EndsSoFar next
-  ends-at-first next d =
-      record { above = d .later; is-one = d .is-one; none-earlier = λ harvest day i a b. no-end harvest i (d .none-between i a b) }
+    pub ends-none : d .table .slots < next → smallestEnd d (d .table .slots) ≡ Found.Nothing
+    ends-none h = let e = is .in-day in let l = is .later in ends-pass after (d .table .slots) (omega arith) none (λ i a b. no-deadline i a (omega arith))
 
-  pub ends-more : (to next : ℕ) → EndsSoFar to → ((harvest : List ℕ) → DayOf t harvest totals → latestStart t harvest to to ≡ nothing) → NextDeadline t to next → EndsSoFar next
-  ends-more to next s none d =
-      record {
-        above = let l = d .later in omega arith;
-        is-one = d .is-one;
-        none-earlier =
-            λ harvest day i a b.
-            elim (decLt i to) [
-              | yes l ↦ s .none-earlier harvest day i a l
-              | no l ↦
-                  elim (decLt to i) [
-                    | yes m ↦ no-end harvest i (d .none-between i m b)
-                    | no m ↦
-                        let same : to ≡ i = omega arith in
-                        subst (λ (n : ℕ). endAt t harvest n ≡ nothing) same (when-nothing (isDeadline t to) _ (λ e. none harvest day))
-                  ]
-            ];
-      }
-
-  pub ends-found : (to : ℕ) (o : Overload) (harvest : List ℕ) → EndsSoFar to → to ≤ t .slots → DayOf t harvest totals
-      → latestStart t harvest to to ≡ interval o → smallestEnd t harvest (t .slots) ≡ interval o
-  ends-found to o harvest s h day e =
-      smallest-here t harvest (t .slots) to o
-      (record { above = s .above; up-to = h; gives = rw (s .is-one h) e; none-earlier = s .none-earlier harvest day })
-
-  pub ends-none : (to : ℕ) (harvest : List ℕ) → EndsSoFar to → t .slots < to → DayOf t harvest totals → smallestEnd t harvest (t .slots) ≡ nothing
-  ends-none to harvest s h day = smallest-none t harvest (t .slots) (λ i a b. s .none-earlier harvest day i a (omega arith))
+    pub ends-next : next ≤ d .table .slots → smallestEnd d next ≡ latestStart d next next
+    unfolding smallestEnd
+    ends-next h = go next refl
+      where
+        go : (n : ℕ) → next ≡ n → smallestEnd d n ≡ latestStart d n n
+        go zero e = let l = is .later in absurd (omega arith)
+        go (suc n) e =
+            let l = is .later in
+            let one : isDeadline d (suc n) ≡ true = subst (λ (i : ℕ). isDeadline d i ≡ true) e (deadline-exactly d next .1 (is .is-one h)) in
+            rw (ends-pass after n (omega arith) none (λ i a b. no-deadline i a (omega arith)), one)

@@ -1,53 +1,38 @@
--- "Demand and overload", for the slots from < to of a table and its harvest.
-use Prim.Native.Nat.{ℕ, _+_, _-_, _*_, _<_}
-use mathlib.Core.List.{List}
+-- "Demand and overload", for the slots from < to of a day.
+use Prim.Native.Nat.{ℕ, _+_, _-_, _<_}
 use mathlib.Core.Bool.{Bool, _&&_}
 use lib.Dec.{ltb, leb}
 use Rattle.sheet.specs.Sums.{totalOf, harvestOf}
-use Rattle.sheet.specs.Table.{jobOf}
+use Rattle.sheet.specs.Table.{jobOf, costOf, Day}
 use Rattle.sheet.specs.declared.Job.{Job}
-use Rattle.sheet.specs.declared.Table.{Table}
 use Rattle.demand.specs.declared.Kind.{Kind}
 use Rattle.demand.specs.declared.Kind.the-variants.{Time, Energy}
-
--- "an interval's jobs are those with release at or after t1 and deadline at or before t2"
-abbrev pub within : ℕ → ℕ → Job → Bool
-within from to j = leb from (j .release) && leb (j .deadline) to
-
--- "Time demand is their slots wanted"
-unfoldable pub timeDemand : Table → ℕ → ℕ → ℕ
-timeDemand t from to = totalOf (λ k. within from to (jobOf t k)) (λ k. jobOf t k .wanted) (t .count)
-
--- "time supply is t2 − t1"
-abbrev pub timeSupply : ℕ → ℕ → ℕ
-timeSupply from to = to - from
-
--- "Energy demand is the sum of slots wanted × energy"
-unfoldable pub energyDemand : Table → ℕ → ℕ → ℕ
-energyDemand t from to = totalOf (λ k. within from to (jobOf t k)) (λ k. jobOf t k .wanted * jobOf t k .energy) (t .count)
-
--- "energy supply is capacity plus the harvest of slots t1 to t2 − 1"
-unfoldable pub energySupply : Table → List ℕ → ℕ → ℕ → ℕ
-energySupply t harvest from to = t .capacity + harvestOf harvest from to
 
 -- the two kinds, by the paper's numbers: "kind .. 0 (time) .. 1 (energy)"
 abbrev pub kindNumber : Kind → ℕ
 kindNumber Time = 0
 kindNumber Energy = 1
 
--- each kind's demand and supply
-abbrev pub demandOf : Kind → Table → ℕ → ℕ → ℕ
-demandOf Time t from to = timeDemand t from to
-demandOf Energy t from to = energyDemand t from to
+-- "an interval's jobs are those with release at or after t1 and deadline at or before t2"
+abbrev pub within : ℕ → ℕ → Job → Bool
+within from to j = leb from (j .release) && leb (j .deadline) to
 
-abbrev pub supplyOf : Kind → Table → List ℕ → ℕ → ℕ → ℕ
-supplyOf Time t harvest from to = timeSupply from to
-supplyOf Energy t harvest from to = energySupply t harvest from to
+-- "Time demand is their slots wanted"; "Energy demand is the sum of slots wanted × energy": what one of them adds
+abbrev pub shareOf : Kind → Job → ℕ
+shareOf Time j = j .wanted
+shareOf Energy j = costOf j
 
--- "Overloaded in a kind: demand above supply"
-abbrev pub Overloaded : Kind → Table → List ℕ → ℕ → ℕ → Type 0
-Overloaded kind t harvest from to = supplyOf kind t harvest from to < demandOf kind t from to
+unfoldable pub demandOf : Kind → Day → ℕ → ℕ → ℕ
+demandOf kind d from to = totalOf (λ k. within from to (jobOf (d .table) k)) (λ k. shareOf kind (jobOf (d .table) k)) (d .table .count)
 
--- the same as a test
-unfoldable pub overloaded : Kind → Table → List ℕ → ℕ → ℕ → Bool
-overloaded kind t harvest from to = ltb (supplyOf kind t harvest from to) (demandOf kind t from to)
+-- "time supply is t2 − t1"; "energy supply is capacity plus the harvest of slots t1 to t2 − 1"
+abbrev pub supplyOf : Kind → Day → ℕ → ℕ → ℕ
+supplyOf Time d from to = to - from
+supplyOf Energy d from to = d .table .capacity + harvestOf (d .harvest) from to
+
+-- "Overloaded in a kind: demand above supply", and the same as a test
+abbrev pub Overloaded : Kind → Day → ℕ → ℕ → Type 0
+Overloaded kind d from to = supplyOf kind d from to < demandOf kind d from to
+
+unfoldable pub overloaded : Kind → Day → ℕ → ℕ → Bool
+overloaded kind d from to = ltb (supplyOf kind d from to) (demandOf kind d from to)

@@ -11,10 +11,9 @@ use lib.ListN.{length}
 use borrow.Author.Tests.{lt-ltb, le-ltb, le-leb, lt-leb, ne-eqb, ltb-true, ltb-false, leb-true, leb-false, eqb-false, not-true}
 use Rattle.sheet.specs.Paper.{gives}
 use Rattle.sheet.specs.Sums.{harvestAt}
-use Rattle.sheet.specs.Table.{idleByte, jobOf}
-use Rattle.sheet.specs.declared.Table.{Table}
+use Rattle.sheet.specs.Table.{idleByte, jobOf, Day}
 use Rattle.sheet.proofs.Exactly.{either, never-both}
-use Rattle.sheet.proofs.Theorems.{below, differs}
+use Rattle.sheet.proofs.Stated.{below, differs}
 use Rattle.sheet.proofs.Words.{or-left, or-right, or-false, and-left, and-right, and-true}
 use Rattle.judge.specs.Evidence.{byteOf, namesJob, slotsGot, levelAt, AcceptablePlan}
 use Rattle.judge.specs.Judge.{namesNothing, outsideWindow, hasAllSlots, lacksCharge, planSays}
@@ -43,59 +42,59 @@ outside-words release deadline i = (
       s),
 )
 
-module _ (t : Table) (harvest plan : List ℕ) where
+module _ (d : Day) (plan : List ℕ) where
   -- 12 in words
-  no-job-words : (i : ℕ) → (namesNothing t plan i ≡ true) ↔ ((byteOf plan i ≡ idleByte → ⊥) × (t .count ≤ byteOf plan i))
+  no-job-words : (i : ℕ) → (namesNothing d plan i ≡ true) ↔ ((byteOf plan i ≡ idleByte → ⊥) × (d .table .count ≤ byteOf plan i))
   unfolding namesNothing
   no-job-words i = (
     (λ e.
         let none = not-true _ e in (
-          eqb-false _ _ (or-left (eqb (byteOf plan i) idleByte) (namesJob t plan i) none),
-          ltb-false _ _ (or-right (eqb (byteOf plan i) idleByte) (namesJob t plan i) none),
+          eqb-false _ _ (or-left (eqb (byteOf plan i) idleByte) (namesJob d plan i) none),
+          ltb-false _ _ (or-right (eqb (byteOf plan i) idleByte) (namesJob d plan i) none),
         )),
-    (λ w. ap not (or-false (eqb (byteOf plan i) idleByte) (namesJob t plan i) (ne-eqb _ _ (w .0)) (le-ltb _ _ (w .1)))),
+    (λ w. ap not (or-false (eqb (byteOf plan i) idleByte) (namesJob d plan i) (ne-eqb _ _ (w .0)) (le-ltb _ _ (w .1)))),
   )
 
   -- a test of the slot's job in words
   of-its-job : (i : ℕ) (test : ℕ → Bool) (P : ℕ → Type 0) → ((k : ℕ) → (test k ≡ true) ↔ P k)
-      → ((i < t .slots) × ((namesJob t plan i && test (byteOf plan i)) ≡ true)) ↔ ((k : ℕ) × RunsIn t plan k i × P k)
+      → ((i < d .table .slots) × ((namesJob d plan i && test (byteOf plan i)) ≡ true)) ↔ ((k : ℕ) × RunsIn d plan k i × P k)
   of-its-job i test P words = (
     (λ a. (
       byteOf plan i,
-      (a .0, ltb-true _ _ (and-left (namesJob t plan i) _ (a .1)), refl),
-      words (byteOf plan i) .0 (and-right (namesJob t plan i) _ (a .1)),
+      (a .0, ltb-true _ _ (and-left (namesJob d plan i) _ (a .1)), refl),
+      words (byteOf plan i) .0 (and-right (namesJob d plan i) _ (a .1)),
     )),
     (λ w.
         let named = w .1 .2 in (
           w .1 .0,
-          and-true (namesJob t plan i) (test (byteOf plan i)) (lt-ltb _ _ (subst (λ (n : ℕ). n < t .count) (sym named) (w .1 .1)))
+          and-true (namesJob d plan i) (test (byteOf plan i)) (lt-ltb _ _ (subst (λ (n : ℕ). n < d .table .count) (sym named) (w .1 .1)))
               (ap test named ∙ words (w .0) .1 (w .2)),
         )),
   )
 
-  pub applies-stated : (f : PlanFault) → Applies t harvest plan f ↔ planStates t harvest plan f
+  pub applies-stated : (f : PlanFault) → Applies d plan f ↔ planStates d plan f
   unfolding testAt
-  applies-stated WrongLength = differs (length plan) (t .slots)
+  applies-stated WrongLength = differs (length plan) (d .table .slots)
   applies-stated (NoJob i) = (
     (λ a. let w = no-job-words i .0 (a .1) in (a .0, w .0, w .1)),
     (λ s. (s .0, no-job-words i .1 (s .1, s .2))),
   )
   applies-stated (OutsideWindow i) =
-      of-its-job i (λ k. outsideWindow (jobOf t k) i) _ (λ k. outside-words (jobOf t k .release) (jobOf t k .deadline) i)
+      of-its-job i (λ k. outsideWindow (jobOf (d .table) k) i) _ (λ k. outside-words (jobOf (d .table) k .release) (jobOf (d .table) k .deadline) i)
   applies-stated (HasAllSlots i) =
-      of-its-job i (λ k. hasAllSlots (jobOf t k) (slotsGot plan k i)) _ (λ k. at-most (jobOf t k .wanted) (slotsGot plan k i))
+      of-its-job i (λ k. hasAllSlots (jobOf (d .table) k) (slotsGot plan k i)) _ (λ k. at-most (jobOf (d .table) k .wanted) (slotsGot plan k i))
   applies-stated (LacksCharge i) =
-      of-its-job i (λ k. lacksCharge (jobOf t k) (levelAt t harvest plan i + harvestAt harvest i)) _
-      (λ k. below (levelAt t harvest plan i + harvestAt harvest i) (jobOf t k .energy))
+      of-its-job i (λ k. lacksCharge (jobOf (d .table) k) (levelAt d plan i + harvestAt (d .harvest) i)) _
+      (λ k. below (levelAt d plan i + harvestAt (d .harvest) i) (jobOf (d .table) k .energy))
   applies-stated (LacksSlots k) = (
     (λ a. (a .0, ltb-true _ _ (a .1))),
     (λ s. (s .0, lt-ltb _ _ (s .1))),
   )
 
   -- "Each is given exactly when stated and nothing earlier applies"
-  pub given-exactly : (f : PlanFault) → (planSays t harvest plan ≡ faultSays f) ↔ PlanGivenFirst t harvest plan f
+  pub given-exactly : (f : PlanFault) → (planSays d plan ≡ faultSays f) ↔ PlanGivenFirst d plan f
   given-exactly f =
-      Iff·trans (refused-exactly t harvest plan f) (
+      Iff·trans (refused-exactly d plan f) (
         (λ a. (applies-stated f .0 (a .0), (λ g h s. a .1 g h (applies-stated g .1 s)))),
         (λ s. (applies-stated f .1 (s .0), (λ g h a. s .1 g h (applies-stated g .0 a)))),
       )
@@ -111,9 +110,9 @@ module _ (t : Table) (harvest plan : List ℕ) where
       rw here (omega arith)
 
   abbrev NoneStated : Type 0
-  NoneStated = (f : PlanFault) → planStates t harvest plan f → ⊥
+  NoneStated = (f : PlanFault) → planStates d plan f → ⊥
 
-  not-stated : AcceptablePlan t harvest plan → NoneStated
+  not-stated : AcceptablePlan d plan → NoneStated
   not-stated ok WrongLength s = s (ok .byte-a-slot)
   not-stated ok (NoJob i) s = ⊎-elim (λ e. s .1 e) (λ h. let l = s .2 in omega arith) (ok .idle-or-job i (s .0))
   not-stated ok (OutsideWindow i) (k, runs, out) =
@@ -125,37 +124,37 @@ module _ (t : Table) (harvest plan : List ℕ) where
       let h = runs .0 in
       let gets = ok .gets-its-slots k (runs .1) in
       let here = got-here plan k i (runs .2) in
-      let later = got-grows k (i + 1) (t .slots - (i + 1)) in
-      let end : i + 1 + (t .slots - (i + 1)) ≡ t .slots = omega arith in
-      let most : slotsGot plan k (i + 1) ≤ slotsGot plan k (t .slots) = subst (λ (n : ℕ). slotsGot plan k (i + 1) ≤ slotsGot plan k n) end later in
+      let later = got-grows k (i + 1) (d .table .slots - (i + 1)) in
+      let end : i + 1 + (d .table .slots - (i + 1)) ≡ d .table .slots = omega arith in
+      let most : slotsGot plan k (i + 1) ≤ slotsGot plan k (d .table .slots) = subst (λ (n : ℕ). slotsGot plan k (i + 1) ≤ slotsGot plan k n) end later in
       omega arith
   not-stated ok (LacksCharge i) (k, runs, short) = let paid = ok .has-charge i k (runs .0) (runs .1) (runs .2) in omega arith
   not-stated ok (LacksSlots k) s = let gets = ok .gets-its-slots k (s .0) in let l = s .1 in omega arith
 
   module _ (none : NoneStated) where
     -- a job never gets more slots than it wants
-    no-more : (k : ℕ) → k < t .count → (i : ℕ) → i ≤ t .slots → slotsGot plan k i ≤ jobOf t k .wanted
+    no-more : (k : ℕ) → k < d .table .count → (i : ℕ) → i ≤ d .table .slots → slotsGot plan k i ≤ jobOf (d .table) k .wanted
     no-more k h zero l = let e = got-none plan k in omega arith
     no-more k h (suc i) l =
         let before = no-more k h i (omega arith) in
         let next : suc i ≡ i + 1 = omega arith in
-        let below-end : i < t .slots = omega arith in
-        subst (λ (n : ℕ). slotsGot plan k n ≤ jobOf t k .wanted) (sym next)
+        let below-end : i < d .table .slots = omega arith in
+        subst (λ (n : ℕ). slotsGot plan k n ≤ jobOf (d .table) k .wanted) (sym next)
         (elim (ℕ-discrete (byteOf plan i) k) [
           | yes e ↦
               let here = got-here plan k i e in
-              elim (decLe (jobOf t k .wanted) (slotsGot plan k i)) [
+              elim (decLe (jobOf (d .table) k .wanted) (slotsGot plan k i)) [
                 | yes full ↦ absurd (none (HasAllSlots i) (k, (below-end, h, e), full))
                 | no full ↦ omega arith
               ]
           | no e ↦ let here = got-not-here plan k i e in omega arith
         ])
 
-    is-acceptable : AcceptablePlan t harvest plan
+    is-acceptable : AcceptablePlan d plan
     is-acceptable =
         record {
           byte-a-slot =
-              elim (ℕ-discrete (length plan) (t .slots)) [
+              elim (ℕ-discrete (length plan) (d .table .slots)) [
                 | yes e ↦ e
                 | no e ↦ absurd (none WrongLength e)
               ];
@@ -164,16 +163,16 @@ module _ (t : Table) (harvest plan : List ℕ) where
               elim (ℕ-discrete (byteOf plan i) idleByte) [
                 | yes e ↦ inl e
                 | no e ↦
-                    elim (decLt (byteOf plan i) (t .count)) [
+                    elim (decLt (byteOf plan i) (d .table .count)) [
                       | yes l ↦ inr l
                       | no l ↦ absurd (none (NoJob i) (h, e, omega arith))
                     ]
               ];
           inside-window =
               λ i k h l e.
-              elim (decLe (jobOf t k .release) i) [
+              elim (decLe (jobOf (d .table) k .release) i) [
                 | yes a ↦
-                    elim (decLt i (jobOf t k .deadline)) [
+                    elim (decLt i (jobOf (d .table) k .deadline)) [
                       | yes b ↦ (a, b)
                       | no b ↦ absurd (none (OutsideWindow i) (k, (h, l, e), inr (omega arith)))
                     ]
@@ -181,22 +180,22 @@ module _ (t : Table) (harvest plan : List ℕ) where
               ];
           gets-its-slots =
               λ k h.
-              let most = no-more k h (t .slots) (omega arith) in
-              elim (decLt (slotsGot plan k (t .slots)) (jobOf t k .wanted)) [
+              let most = no-more k h (d .table .slots) (omega arith) in
+              elim (decLt (slotsGot plan k (d .table .slots)) (jobOf (d .table) k .wanted)) [
                 | yes l ↦ absurd (none (LacksSlots k) (h, l))
                 | no l ↦ omega arith
               ];
           has-charge =
               λ i k h l e.
-              elim (decLt (levelAt t harvest plan i + harvestAt harvest i) (jobOf t k .energy)) [
+              elim (decLt (levelAt d plan i + harvestAt (d .harvest) i) (jobOf (d .table) k .energy)) [
                 | yes short ↦ absurd (none (LacksCharge i) (k, (h, l, e), short))
                 | no short ↦ omega arith
               ];
         }
 
-  pub acceptable-exactly : (planSays t harvest plan ≡ gives tt) ↔ AcceptablePlan t harvest plan
+  pub acceptable-exactly : (planSays d plan ≡ gives tt) ↔ AcceptablePlan d plan
   acceptable-exactly =
-      Iff·trans (accepted-when-clear t harvest plan) (
+      Iff·trans (accepted-when-clear d plan) (
         (λ clear. is-acceptable (λ f s. clear f (applies-stated f .1 s))),
         (λ ok f a. not-stated ok f (applies-stated f .0 a)),
       )

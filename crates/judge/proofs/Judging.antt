@@ -9,17 +9,16 @@ use native.Mathlib.Omega.{arith}
 use lib.Dec.{ltb, eqb}
 use lib.ListN.{length, getD}
 use borrow.Author.Tests.{lt-ltb, le-ltb, eq-eqb, ne-eqb}
-use Rattle.sheet.specs.Paper.{Check, gives, _else_, inOrder}
+use Rattle.sheet.specs.Paper.{Check, gives, _when_, _else_, inOrder}
 use Rattle.sheet.specs.Sums.{harvestAt}
-use Rattle.sheet.specs.Table.{mostJobs, idleByte, startLevel, jobOf}
-use Rattle.sheet.specs.declared.Table.{Table}
+use Rattle.sheet.specs.Table.{mostJobs, idleByte, startLevel, jobOf, Day}
 use Rattle.sheet.proofs.Sums.{total-none, total-more}
 use Rattle.judge.specs.Evidence.{byteOf, namesJob, slotsGot, spentIn, levelAt}
 use Rattle.sheet.specs.declared.Job.{Job}
 use Rattle.sheet.proofs.Order.{Refuses, else-stays, else-goes-on, in-order-first, in-order-same}
 use Rattle.judge.specs.Judge.{namesNothing, outsideWindow, hasAllSlots, lacksCharge, jobSays, slotSays, endSays, slotsSay}
-use Rattle.judge.specs.Numbers.{faultSays, _applies-when_}
-use Rattle.judge.specs.Steps.{findingSays, endBy, endsBy}
+use Rattle.judge.specs.Numbers.{faultSays}
+use Rattle.judge.specs.Steps.{findingSays, endsBy}
 use Rattle.judge.specs.declared.PlanFault.{PlanFault}
 use Rattle.judge.specs.declared.PlanFault.the-variants.{WrongLength, NoJob, OutsideWindow, HasAllSlots, LacksCharge, LacksSlots}
 use Rattle.judge.specs.declared.Finding.{Finding}
@@ -45,82 +44,82 @@ got-not-here plan k i e =
 
 -- ---- the level
 
-module _ (t : Table) (harvest plan : List ℕ) where
-  pub level-first : levelAt t harvest plan 0 ≡ startLevel t
+module _ (d : Day) (plan : List ℕ) where
+  pub level-first : levelAt d plan 0 ≡ startLevel (d .table)
   unfolding levelAt
   level-first = refl
 
-  pub level-next : (i : ℕ) → levelAt t harvest plan (i + 1) ≡ min (t .capacity) (levelAt t harvest plan i + harvestAt harvest i - spentIn t plan i)
+  pub level-next : (i : ℕ) → levelAt d plan (i + 1) ≡ min (d .table .capacity) (levelAt d plan i + harvestAt (d .harvest) i - spentIn d plan i)
   unfolding levelAt
-  level-next i = ap (levelAt t harvest plan) (add-one i)
+  level-next i = ap (levelAt d plan) (add-one i)
 
   -- ---- what a slot spends, and what is said of it
 
   abbrev chargeAt : ℕ → ℕ
-  chargeAt i = levelAt t harvest plan i + harvestAt harvest i
+  chargeAt i = levelAt d plan i + harvestAt (d .harvest) i
 
-  module _ (i : ℕ) (few : t .count ≤ mostJobs) (idle : byteOf plan i ≡ idleByte) where
-    names-none : namesJob t plan i ≡ false
-    names-none = let h : t .count ≤ byteOf plan i = omega arith in le-ltb _ _ h
+  module _ (i : ℕ) (few : d .table .count ≤ mostJobs) (idle : byteOf plan i ≡ idleByte) where
+    names-none : namesJob d plan i ≡ false
+    names-none = let h : d .table .count ≤ byteOf plan i = omega arith in le-ltb _ _ h
 
-    pub idle-says : slotSays t harvest plan i ≡ gives tt
+    pub idle-says : slotSays d plan i ≡ gives tt
     unfolding slotSays namesNothing
     idle-says = rw (names-none, eq-eqb _ _ idle)
 
-    pub idle-level : levelAt t harvest plan (i + 1) ≡ min (t .capacity) (chargeAt i)
+    pub idle-level : levelAt d plan (i + 1) ≡ min (d .table .capacity) (chargeAt i)
     unfolding spentIn
     idle-level = let whole : chargeAt i - 0 ≡ chargeAt i = omega arith in level-next i ∙ rw (names-none, whole)
 
-    pub idle-got : (k : ℕ) → k < t .count → slotsGot plan k (i + 1) ≡ slotsGot plan k i
+    pub idle-got : (k : ℕ) → k < d .table .count → slotsGot plan k (i + 1) ≡ slotsGot plan k i
     idle-got k h = got-not-here plan k i (λ e. omega arith)
 
-  pub stranger-says : (i : ℕ) → (byteOf plan i ≡ idleByte → ⊥) → t .count ≤ byteOf plan i → slotSays t harvest plan i ≡ faultSays (NoJob i)
+  pub stranger-says : (i : ℕ) → (byteOf plan i ≡ idleByte → ⊥) → d .table .count ≤ byteOf plan i → slotSays d plan i ≡ faultSays (NoJob i)
   unfolding slotSays namesNothing
   stranger-says i busy h = rw (ne-eqb _ _ busy, le-ltb _ _ h)
 
-  module _ (i k : ℕ) (h : k < t .count) (named : byteOf plan i ≡ k) where
-    names-it : namesJob t plan i ≡ true
-    names-it = let l : byteOf plan i < t .count = omega arith in lt-ltb _ _ l
+  module _ (i k : ℕ) (h : k < d .table .count) (named : byteOf plan i ≡ k) where
+    names-it : namesJob d plan i ≡ true
+    names-it = let l : byteOf plan i < d .table .count = omega arith in lt-ltb _ _ l
 
-    is-job : namesNothing t plan i ≡ false
+    is-job : namesNothing d plan i ≡ false
     unfolding namesNothing
     is-job = let e = names-it in go (eqb (byteOf plan i) idleByte) e
       where
-        go : (b : Bool) → namesJob t plan i ≡ true → not (b || namesJob t plan i) ≡ false
+        go : (b : Bool) → namesJob d plan i ≡ true → not (b || namesJob d plan i) ≡ false
         go true e = refl
         go false e = rw e
 
-    pub busy-says : slotSays t harvest plan i ≡ jobSays (jobOf t k) i (slotsGot plan k i) (chargeAt i)
+    pub busy-says : slotSays d plan i ≡ jobSays (jobOf (d .table) k) i (slotsGot plan k i) (chargeAt i)
     unfolding slotSays
-    busy-says = rw (is-job, names-it) (ap (λ (n : ℕ). jobSays (jobOf t n) i (slotsGot plan n i) (chargeAt i)) named)
+    busy-says = rw (is-job, names-it) (ap (λ (n : ℕ). jobSays (jobOf (d .table) n) i (slotsGot plan n i) (chargeAt i)) named)
 
-    pub busy-spends : spentIn t plan i ≡ jobOf t k .energy
+    pub busy-spends : spentIn d plan i ≡ jobOf (d .table) k .energy
     unfolding spentIn
-    busy-spends = rw names-it (ap (λ (n : ℕ). jobOf t n .energy) named)
+    busy-spends = rw names-it (ap (λ (n : ℕ). jobOf (d .table) n .energy) named)
 
-    pub busy-level : levelAt t harvest plan (i + 1) ≡ min (t .capacity) (chargeAt i - jobOf t k .energy)
-    busy-level = level-next i ∙ ap (λ (n : ℕ). min (t .capacity) (chargeAt i - n)) busy-spends
+    pub busy-level : levelAt d plan (i + 1) ≡ min (d .table .capacity) (chargeAt i - jobOf (d .table) k .energy)
+    busy-level = level-next i ∙ ap (λ (n : ℕ). min (d .table .capacity) (chargeAt i - n)) busy-spends
 
 -- ---- what is said of a plan of which no slot before i is refused
 
 -- a slot that refuses is the answer
-pub first-refused : (t : Table) (harvest plan : List ℕ) (i : ℕ) (r : Check) → i < t .slots → inOrder (slotSays t harvest plan) i ≡ gives tt
-    → slotSays t harvest plan i ≡ r → Refuses r → slotsSay t harvest plan ≡ r
+pub first-refused : (d : Day) (plan : List ℕ) (i : ℕ) (r : Check) → i < d .table .slots → inOrder (slotSays d plan) i ≡ gives tt
+    → slotSays d plan i ≡ r → Refuses r → slotsSay d plan ≡ r
 unfolding slotsSay
-first-refused t harvest plan i r h before here is-refusal =
-    let says : inOrder (slotSays t harvest plan) (t .slots) ≡ r =
-    in-order-first (slotSays t harvest plan) i (t .slots) h before (subst Refuses (sym here) is-refusal) ∙ here in
-    let ends : Check = inOrder (endSays t plan) (t .count) in
+first-refused d plan i r h before here is-refusal =
+    let says : inOrder (slotSays d plan) (d .table .slots) ≡ r =
+    in-order-first (slotSays d plan) i (d .table .slots) h before (subst Refuses (sym here) is-refusal) ∙ here in
+    let ends : Check = inOrder (endSays d plan) (d .table .count) in
     ap (λ (x : Check). x else ends) says ∙ else-stays r ends is-refusal
 
 -- where no slot refuses, 16 decides
-pub ends-decide : (t : Table) (harvest plan got : List ℕ) → inOrder (slotSays t harvest plan) (t .slots) ≡ gives tt
-    → ((k : ℕ) → k < t .count → getD got k 0 ≡ slotsGot plan k (t .slots)) → endsBy t got ≡ slotsSay t harvest plan
+pub ends-decide : (d : Day) (plan got : List ℕ) → inOrder (slotSays d plan) (d .table .slots) ≡ gives tt
+    → ((k : ℕ) → k < d .table .count → getD got k 0 ≡ slotsGot plan k (d .table .slots)) → endsBy (d .table) got ≡ slotsSay d plan
 unfolding slotsSay endsBy
-ends-decide t harvest plan got clear kept =
-    in-order-same (endBy t got) (endSays t plan) (t .count)
-    (λ k h. ap (λ (n : ℕ). LacksSlots k applies-when ltb n (jobOf t k .wanted)) (kept k h))
-    ∙ sym (else-goes-on (inOrder (slotSays t harvest plan) (t .slots)) _ clear)
+ends-decide d plan got clear kept =
+    in-order-same _ (endSays d plan) (d .table .count)
+    (λ k h. ap (λ (n : ℕ). faultSays (LacksSlots k) when ltb n (jobOf (d .table) k .wanted)) (kept k h))
+    ∙ sym (else-goes-on (inOrder (slotSays d plan) (d .table .slots)) _ clear)
 
 -- a busy slot that is not refused: the job may run, lacks a slot, and can be paid
 pub job-clear : (j : Job) (i got charge : ℕ) → jobSays j i got charge ≡ gives tt
@@ -128,7 +127,7 @@ pub job-clear : (j : Job) (i got charge : ℕ) → jobSays j i got charge ≡ gi
 unfolding jobSays
 job-clear j i got charge e = go (outsideWindow j i) (hasAllSlots j got) (lacksCharge j charge) e
   where
-    go : (a b d : Bool) → (OutsideWindow i applies-when a else HasAllSlots i applies-when b else LacksCharge i applies-when d) ≡ gives tt
+    go : (a b d : Bool) → (faultSays (OutsideWindow i) when a else faultSays (HasAllSlots i) when b else faultSays (LacksCharge i) when d) ≡ gives tt
         → (a ≡ false) × (b ≡ false) × (d ≡ false)
     go true b d e = absurd (subst (λ (c : Check). Refuses c) e tt)
     go false true d e = absurd (subst (λ (c : Check). Refuses c) e tt)

@@ -9,10 +9,9 @@ use lib.Seq.{getD-set-same, getD-set-other}
 use borrow.Author.Tests.{ltb-false, leb-false}
 use Rattle.sheet.specs.Paper.{gives, inOrder}
 use Rattle.sheet.specs.Sums.{harvestAt}
-use Rattle.sheet.specs.Table.{mostJobs, idleByte, startLevel, jobOf}
-use Rattle.sheet.specs.declared.Table.{Table}
+use Rattle.sheet.specs.Table.{mostJobs, idleByte, startLevel, jobOf, Day}
 use Rattle.sheet.proofs.Order.{in-order-none, in-order-clear}
-use Rattle.sheet.proofs.Sums.{zeros-first}
+use Rattle.sheet.proofs.Lists.{zeros-first}
 use Rattle.judge.specs.Evidence.{byteOf, slotsGot, levelAt}
 use Rattle.judge.specs.Judge.{jobSays, slotSays, slotsSay}
 use Rattle.judge.specs.Steps.{findingSays, endsBy}
@@ -24,16 +23,16 @@ use Rattle.judge.specs.declared.Finding.the-variants.{Nothing, Fault}
 use Rattle.judge.proofs.Judging.{got-none, got-here, got-not-here, level-first, idle-says, idle-level, idle-got, stranger-says, busy-says, busy-level, first-refused, ends-decide, job-clear, fault-refuses, nothing-gives, byte-stands}
 
 -- the level and the slots that each job got are the plan's, and no slot before i is refused
-pub record Kept (t : Table) (harvest plan got : List ℕ) (level i : ℕ) : Type 0 where
-  pub level-is : level ≡ levelAt t harvest plan i
+pub record Kept (d : Day) (plan got : List ℕ) (level i : ℕ) : Type 0 where
+  pub level-is : level ≡ levelAt d plan i
   pub got-long : length got ≡ mostJobs
-  pub got-is : (k : ℕ) → k < t .count → getD got k 0 ≡ slotsGot plan k i
-  pub clear : inOrder (slotSays t harvest plan) i ≡ gives tt
+  pub got-is : (k : ℕ) → k < d .table .count → getD got k 0 ≡ slotsGot plan k i
+  pub clear : inOrder (slotSays d plan) i ≡ gives tt
 
-pub kept-first : (t : Table) (harvest plan : List ℕ) → Kept t harvest plan (replicate mostJobs 0) (startLevel t) 0
-kept-first t harvest plan =
+pub kept-first : (d : Day) (plan : List ℕ) → Kept d plan (replicate mostJobs 0) (startLevel (d .table)) 0
+kept-first d plan =
     record {
-      level-is = sym (level-first t harvest plan);
+      level-is = sym (level-first d plan);
       got-long = refl;
       got-is = λ k h. zeros-first mostJobs k ∙ sym (got-none plan k);
       clear = in-order-none _;
@@ -41,59 +40,59 @@ kept-first t harvest plan =
 
 -- ---- slot i of the day, with its byte and its charge as the code reads them
 
-pub record SlotRead (t : Table) (harvest plan : List ℕ) (level i byte charge : ℕ) : Type 0 where
-  pub few : t .count ≤ mostJobs
-  pub in-day : i < t .slots
+pub record SlotRead (d : Day) (plan : List ℕ) (level i byte charge : ℕ) : Type 0 where
+  pub few : d .table .count ≤ mostJobs
+  pub in-day : i < d .table .slots
   pub in-plan : i < length plan
   pub byte-is : byte ≡ getD plan i 0
-  pub charge-is : charge ≡ level + harvestAt harvest i
+  pub charge-is : charge ≡ level + harvestAt (d .harvest) i
 
-module _ (t : Table) (harvest plan got : List ℕ) (level i byte charge : ℕ) (kept : Kept t harvest plan got level i)
-    (read : SlotRead t harvest plan level i byte charge) where
+module _ (d : Day) (plan got : List ℕ) (level i byte charge : ℕ) (kept : Kept d plan got level i)
+    (read : SlotRead d plan level i byte charge) where
   its-byte : byte ≡ byteOf plan i
   its-byte = read .byte-is ∙ byte-stands plan i 0 (read .in-plan)
 
-  its-charge : charge ≡ levelAt t harvest plan i + harvestAt harvest i
-  its-charge = read .charge-is ∙ ap (λ (n : ℕ). n + harvestAt harvest i) (kept .level-is)
+  its-charge : charge ≡ levelAt d plan i + harvestAt (d .harvest) i
+  its-charge = read .charge-is ∙ ap (λ (n : ℕ). n + harvestAt (d .harvest) i) (kept .level-is)
 
-  pub kept-idle : (level′ : ℕ) → byte ≡ idleByte → level′ ≡ min (t .capacity) charge → Kept t harvest plan got level′ (i + 1)
+  pub kept-idle : (level′ : ℕ) → byte ≡ idleByte → level′ ≡ min (d .table .capacity) charge → Kept d plan got level′ (i + 1)
   kept-idle level′ idle e =
       let named = sym its-byte ∙ idle in
       record {
-        level-is = e ∙ ap (min (t .capacity)) its-charge ∙ sym (idle-level t harvest plan i (read .few) named);
+        level-is = e ∙ ap (min (d .table .capacity)) its-charge ∙ sym (idle-level d plan i (read .few) named);
         got-long = kept .got-long;
-        got-is = λ k h. kept .got-is k h ∙ sym (idle-got t harvest plan i (read .few) named k h);
-        clear = in-order-clear (slotSays t harvest plan) i (kept .clear) (idle-says t harvest plan i (read .few) named);
+        got-is = λ k h. kept .got-is k h ∙ sym (idle-got d plan i (read .few) named k h);
+        clear = in-order-clear (slotSays d plan) i (kept .clear) (idle-says d plan i (read .few) named);
       }
 
-  pub refused-stranger : (byte ≡ idleByte → ⊥) → t .count ≤ byte → faultSays (NoJob i) ≡ slotsSay t harvest plan
+  pub refused-stranger : (byte ≡ idleByte → ⊥) → d .table .count ≤ byte → faultSays (NoJob i) ≡ slotsSay d plan
   refused-stranger busy h =
       let e = its-byte in
       sym
-      (first-refused t harvest plan i (faultSays (NoJob i)) (read .in-day) (kept .clear)
-      (stranger-says t harvest plan i (λ q. busy (e ∙ q)) (subst (λ (n : ℕ). t .count ≤ n) e h)) tt)
+      (first-refused d plan i (faultSays (NoJob i)) (read .in-day) (kept .clear)
+      (stranger-says d plan i (λ q. busy (e ∙ q)) (subst (λ (n : ℕ). d .table .count ≤ n) e h)) tt)
 
   -- ---- a slot that names a job
 
-  module _ (h : byte < t .count) (found : Finding) (said : findingSays found ≡ jobSays (jobOf t byte) i (getD got byte 0) charge) where
-    slot-said : findingSays found ≡ slotSays t harvest plan i
+  module _ (h : byte < d .table .count) (found : Finding) (said : findingSays found ≡ jobSays (jobOf (d .table) byte) i (getD got byte 0) charge) where
+    slot-said : findingSays found ≡ slotSays d plan i
     slot-said =
         said
-        ∙ ap₂ (jobSays (jobOf t byte) i) (kept .got-is byte h) its-charge
-        ∙ sym (busy-says t harvest plan i byte h (sym its-byte))
+        ∙ ap₂ (jobSays (jobOf (d .table) byte) i) (kept .got-is byte h) its-charge
+        ∙ sym (busy-says d plan i byte h (sym its-byte))
 
-    pub refused-job : (f : PlanFault) → found ≡ Fault f → findingSays found ≡ slotsSay t harvest plan
+    pub refused-job : (f : PlanFault) → found ≡ Fault f → findingSays found ≡ slotsSay d plan
     refused-job f e =
-        sym (first-refused t harvest plan i (findingSays found) (read .in-day) (kept .clear) (sym slot-said) (fault-refuses found f _ e refl))
+        sym (first-refused d plan i (findingSays found) (read .in-day) (kept .clear) (sym slot-said) (fault-refuses found f _ e refl))
 
     module _ (nothing : found ≡ Nothing) where
-      pub gets-more : getD got byte 0 < jobOf t byte .wanted
-      gets-more = leb-false _ _ (job-clear (jobOf t byte) i (getD got byte 0) charge (nothing-gives found _ nothing said) .1)
+      pub gets-more : getD got byte 0 < jobOf (d .table) byte .wanted
+      gets-more = leb-false _ _ (job-clear (jobOf (d .table) byte) i (getD got byte 0) charge (nothing-gives found _ nothing said) .1)
 
-      pub is-paid : jobOf t byte .energy ≤ charge
-      is-paid = ltb-false _ _ (job-clear (jobOf t byte) i (getD got byte 0) charge (nothing-gives found _ nothing said) .2)
+      pub is-paid : jobOf (d .table) byte .energy ≤ charge
+      is-paid = ltb-false _ _ (job-clear (jobOf (d .table) byte) i (getD got byte 0) charge (nothing-gives found _ nothing said) .2)
 
-      got-stored : (m : ℕ) → m < t .count → getD (set got byte (getD got byte 0 + 1)) m 0 ≡ slotsGot plan m (i + 1)
+      got-stored : (m : ℕ) → m < d .table .count → getD (set got byte (getD got byte 0 + 1)) m 0 ≡ slotsGot plan m (i + 1)
       got-stored m l =
           let long = kept .got-long in
           let few = read .few in
@@ -106,18 +105,18 @@ module _ (t : Table) (harvest plan got : List ℕ) (level i byte charge : ℕ) (
             | no e ↦ getD-set-other got byte m (getD got byte 0 + 1) 0 e ∙ kept .got-is m l ∙ sym (got-not-here plan m i (λ q. e (sym (its-byte ∙ q))))
           ]
 
-      pub kept-busy : (energy level′ : ℕ) → energy ≡ jobOf t byte .energy → level′ ≡ min (t .capacity) (charge - energy)
-          → Kept t harvest plan (set got byte (getD got byte 0 + 1)) level′ (i + 1)
+      pub kept-busy : (energy level′ : ℕ) → energy ≡ jobOf (d .table) byte .energy → level′ ≡ min (d .table .capacity) (charge - energy)
+          → Kept d plan (set got byte (getD got byte 0 + 1)) level′ (i + 1)
       kept-busy energy level′ price e =
           record {
-            level-is = e ∙ ap₂ (λ (a b : ℕ). min (t .capacity) (a - b)) its-charge price ∙ sym (busy-level t harvest plan i byte h (sym its-byte));
+            level-is = e ∙ ap₂ (λ (a b : ℕ). min (d .table .capacity) (a - b)) its-charge price ∙ sym (busy-level d plan i byte h (sym its-byte));
             got-long = length-set got byte _ ∙ kept .got-long;
             got-is = got-stored;
-            clear = in-order-clear (slotSays t harvest plan) i (kept .clear) (nothing-gives found _ nothing slot-said);
+            clear = in-order-clear (slotSays d plan) i (kept .clear) (nothing-gives found _ nothing slot-said);
           }
 
 -- after the last slot
-pub kept-decides : (t : Table) (harvest plan got : List ℕ) (level i : ℕ) → Kept t harvest plan got level i → i ≡ t .slots → endsBy t got ≡ slotsSay t harvest plan
-kept-decides t harvest plan got level i kept at-end =
-    ends-decide t harvest plan got (subst (λ (n : ℕ). inOrder (slotSays t harvest plan) n ≡ gives tt) at-end (kept .clear))
+pub kept-decides : (d : Day) (plan got : List ℕ) (level i : ℕ) → Kept d plan got level i → i ≡ d .table .slots → endsBy (d .table) got ≡ slotsSay d plan
+kept-decides d plan got level i kept at-end =
+    ends-decide d plan got (subst (λ (n : ℕ). inOrder (slotSays d plan) n ≡ gives tt) at-end (kept .clear))
     (λ k h. kept .got-is k h ∙ ap (slotsGot plan k) at-end)

@@ -1,5 +1,5 @@
 pub mod Acceptable
-pub mod ClaimKinds
+pub mod ClaimWords
 pub mod Judging
 pub mod Keeping
 pub mod PlanOrder

@@ -9,22 +9,21 @@ use native.Mathlib.Omega.{arith}
 use lib.Dec.{ltb, eqb}
 use lib.ListN.{length}
 use borrow.Author.Tests.{lt-ltb, le-ltb, ne-eqb}
-use Rattle.sheet.specs.Paper.{Check, gives, refuses, refusesAt, _else_, inOrder}
+use Rattle.sheet.specs.Paper.{Check, gives, refuses, refusesAt, _when_, _else_, inOrder, numberOf}
 use Rattle.sheet.specs.Sums.{harvestAt}
-use Rattle.sheet.specs.Table.{jobOf}
-use Rattle.sheet.specs.declared.Table.{Table}
+use Rattle.sheet.specs.Table.{jobOf, Day}
 use Rattle.sheet.proofs.Exactly.{either, never-both}
 use Rattle.sheet.proofs.Order.{Refuses, else-stays, else-goes-on, in-order-decided}
 use Rattle.judge.specs.Evidence.{byteOf, namesJob, slotsGot, levelAt}
 use Rattle.judge.specs.Judge.{namesNothing, outsideWindow, hasAllSlots, lacksCharge, jobSays, slotSays, endSays, slotsSay, planSays}
-use Rattle.judge.specs.Numbers.{faultSays, _applies-when_}
+use Rattle.judge.specs.Numbers.{faultSays}
 use Rattle.judge.specs.Stated.{planTurn}
 use Rattle.judge.specs.declared.PlanFault.{PlanFault}
 use Rattle.judge.specs.declared.PlanFault.the-variants.{WrongLength, NoJob, OutsideWindow, HasAllSlots, LacksCharge, LacksSlots}
 
 -- what 16 asks of job k
-abbrev pub lacksSlots : Table → List ℕ → ℕ → Bool
-lacksSlots t plan k = ltb (slotsGot plan k (t .slots)) (jobOf t k .wanted)
+abbrev pub lacksSlots : Day → List ℕ → ℕ → Bool
+lacksSlots d plan k = ltb (slotsGot plan k (d .table .slots)) (jobOf (d .table) k .wanted)
 
 -- a slot's refusals by the turn that they have in it, 12 first
 abbrev pub faultAt : ℕ → ℕ → PlanFault
@@ -33,12 +32,12 @@ faultAt (suc zero) i = OutsideWindow i
 faultAt (suc (suc zero)) i = HasAllSlots i
 faultAt (suc (suc (suc m))) i = LacksCharge i
 
-fault-turn : (t : Table) (m i : ℕ) → m < 4 → planTurn t (faultAt m i) ≡ 4 * i + 1 + m
-fault-turn t zero i h = omega arith
-fault-turn t (suc zero) i h = omega arith
-fault-turn t (suc (suc zero)) i h = omega arith
-fault-turn t (suc (suc (suc zero))) i h = omega arith
-fault-turn t (suc (suc (suc (suc m)))) i h = absurd (omega arith)
+fault-turn : (d : Day) (m i : ℕ) → m < 4 → planTurn d (faultAt m i) ≡ 4 * i + 1 + m
+fault-turn d zero i h = omega arith
+fault-turn d (suc zero) i h = omega arith
+fault-turn d (suc (suc zero)) i h = omega arith
+fault-turn d (suc (suc (suc zero))) i h = omega arith
+fault-turn d (suc (suc (suc (suc m)))) i h = absurd (omega arith)
 
 -- a refusal refuses, so what its check gave tells the test
 pub fault-refuses : (f : PlanFault) → Refuses (faultSays f)
@@ -52,48 +51,48 @@ fault-refuses (LacksSlots k) = tt
 pub fault-not-given : (f : PlanFault) → faultSays f ≡ gives tt → ⊥
 fault-not-given f e = subst Refuses e (fault-refuses f)
 
-given-test : (f : PlanFault) (b : Bool) → (f applies-when b) ≡ gives tt → b ≡ false
+given-test : (f : PlanFault) (b : Bool) → (faultSays f when b) ≡ gives tt → b ≡ false
 given-test f true e = absurd (fault-not-given f e)
 given-test f false e = refl
 
-refused-test : (f : PlanFault) (b : Bool) → Refuses (f applies-when b) → b ≡ true
+refused-test : (f : PlanFault) (b : Bool) → Refuses (faultSays f when b) → b ≡ true
 refused-test f true r = refl
 refused-test f false r = absurd r
 
-module _ (t : Table) (harvest plan : List ℕ) where
+module _ (d : Day) (plan : List ℕ) where
   -- ---- the tests of a slot
 
   unfoldable pub testAt : ℕ → ℕ → Bool
-  testAt zero i = namesNothing t plan i
-  testAt (suc zero) i = namesJob t plan i && outsideWindow (jobOf t (byteOf plan i)) i
-  testAt (suc (suc zero)) i = namesJob t plan i && hasAllSlots (jobOf t (byteOf plan i)) (slotsGot plan (byteOf plan i) i)
-  testAt (suc (suc (suc m))) i = namesJob t plan i && lacksCharge (jobOf t (byteOf plan i)) (levelAt t harvest plan i + harvestAt harvest i)
+  testAt zero i = namesNothing d plan i
+  testAt (suc zero) i = namesJob d plan i && outsideWindow (jobOf (d .table) (byteOf plan i)) i
+  testAt (suc (suc zero)) i = namesJob d plan i && hasAllSlots (jobOf (d .table) (byteOf plan i)) (slotsGot plan (byteOf plan i) i)
+  testAt (suc (suc (suc m))) i = namesJob d plan i && lacksCharge (jobOf (d .table) (byteOf plan i)) (levelAt d plan i + harvestAt (d .harvest) i)
 
   inSlot : ℕ → ℕ → Check
-  inSlot i m = faultAt m i applies-when testAt m i
+  inSlot i m = faultSays (faultAt m i) when testAt m i
 
   four-tests : (i : ℕ) (a n b d e : Bool)
-      → (NoJob i applies-when a
-      else cond n (OutsideWindow i applies-when b else HasAllSlots i applies-when d else LacksCharge i applies-when e) (gives tt))
-      ≡ (((NoJob i applies-when a else OutsideWindow i applies-when (n && b)) else HasAllSlots i applies-when (n && d)) else LacksCharge i applies-when (n && e))
+      → (faultSays (NoJob i) when a
+      else cond n (faultSays (OutsideWindow i) when b else faultSays (HasAllSlots i) when d else faultSays (LacksCharge i) when e) (gives tt))
+      ≡ (((faultSays (NoJob i) when a else faultSays (OutsideWindow i) when (n && b)) else faultSays (HasAllSlots i) when (n && d)) else faultSays (LacksCharge i) when (n && e))
   four-tests i true n b d e = refl
   four-tests i false true true d e = refl
   four-tests i false true false true e = refl
   four-tests i false true false false e = refl
   four-tests i false false b d e = refl
 
-  slot-in-turn : (i : ℕ) → slotSays t harvest plan i ≡ inOrder (inSlot i) 4
+  slot-in-turn : (i : ℕ) → slotSays d plan i ≡ inOrder (inSlot i) 4
   unfolding slotSays jobSays inOrder inSlot testAt
   slot-in-turn i =
-      four-tests i (namesNothing t plan i) (namesJob t plan i) (outsideWindow (jobOf t (byteOf plan i)) i)
-      (hasAllSlots (jobOf t (byteOf plan i)) (slotsGot plan (byteOf plan i) i))
-      (lacksCharge (jobOf t (byteOf plan i)) (levelAt t harvest plan i + harvestAt harvest i))
+      four-tests i (namesNothing d plan i) (namesJob d plan i) (outsideWindow (jobOf (d .table) (byteOf plan i)) i)
+      (hasAllSlots (jobOf (d .table) (byteOf plan i)) (slotsGot plan (byteOf plan i) i))
+      (lacksCharge (jobOf (d .table) (byteOf plan i)) (levelAt d plan i + harvestAt (d .harvest) i))
 
   -- a slot refuses nothing, and no test holds; or the first that holds is the answer
   abbrev SlotDecided : ℕ → Type 0
   SlotDecided i =
-      (((m : ℕ) → m < 4 → testAt m i ≡ false) × (slotSays t harvest plan i ≡ gives tt))
-      ⊎ ((m : ℕ) × (m < 4) × ((n : ℕ) → n < m → testAt n i ≡ false) × (testAt m i ≡ true) × (slotSays t harvest plan i ≡ faultSays (faultAt m i)))
+      (((m : ℕ) → m < 4 → testAt m i ≡ false) × (slotSays d plan i ≡ gives tt))
+      ⊎ ((m : ℕ) × (m < 4) × ((n : ℕ) → n < m → testAt n i ≡ false) × (testAt m i ≡ true) × (slotSays d plan i ≡ faultSays (faultAt m i)))
 
   slot-decided : (i : ℕ) → SlotDecided i
   unfolding inSlot
@@ -108,28 +107,28 @@ module _ (t : Table) (harvest plan : List ℕ) where
         w .1,
         (λ n l. given-test (faultAt n i) (testAt n i) (w .2 n l)),
         holds,
-        slot-in-turn i ∙ w .4 ∙ ap (λ (b : Bool). faultAt m i applies-when b) holds,
+        slot-in-turn i ∙ w .4 ∙ ap (λ (b : Bool). faultSays (faultAt m i) when b) holds,
       ))
       (in-order-decided (inSlot i) 4)
 
-  slot-clear : (i : ℕ) → slotSays t harvest plan i ≡ gives tt → (m : ℕ) → m < 4 → testAt m i ≡ false
+  slot-clear : (i : ℕ) → slotSays d plan i ≡ gives tt → (m : ℕ) → m < 4 → testAt m i ≡ false
   slot-clear i e =
       ⊎-elim (λ c. c .0) (λ w. absurd (fault-not-given (faultAt (w .0) i) (sym (w .4) ∙ e))) (slot-decided i)
 
   -- ---- a refusal applies, by itself
 
   abbrev pub Applies : PlanFault → Type 0
-  Applies WrongLength = not (eqb (length plan) (t .slots)) ≡ true
-  Applies (NoJob i) = (i < t .slots) × (testAt 0 i ≡ true)
-  Applies (OutsideWindow i) = (i < t .slots) × (testAt 1 i ≡ true)
-  Applies (HasAllSlots i) = (i < t .slots) × (testAt 2 i ≡ true)
-  Applies (LacksCharge i) = (i < t .slots) × (testAt 3 i ≡ true)
-  Applies (LacksSlots k) = (k < t .count) × (lacksSlots t plan k ≡ true)
+  Applies WrongLength = not (eqb (length plan) (d .table .slots)) ≡ true
+  Applies (NoJob i) = (i < d .table .slots) × (testAt 0 i ≡ true)
+  Applies (OutsideWindow i) = (i < d .table .slots) × (testAt 1 i ≡ true)
+  Applies (HasAllSlots i) = (i < d .table .slots) × (testAt 2 i ≡ true)
+  Applies (LacksCharge i) = (i < d .table .slots) × (testAt 3 i ≡ true)
+  Applies (LacksSlots k) = (k < d .table .count) × (lacksSlots d plan k ≡ true)
 
   abbrev pub FirstIs : PlanFault → Type 0
-  FirstIs f = Applies f × ((g : PlanFault) → planTurn t g < planTurn t f → Applies g → ⊥)
+  FirstIs f = Applies f × ((g : PlanFault) → planTurn d g < planTurn d f → Applies g → ⊥)
 
-  at-turn : (m i : ℕ) → m < 4 → i < t .slots → testAt m i ≡ true → Applies (faultAt m i)
+  at-turn : (m i : ℕ) → m < 4 → i < d .table .slots → testAt m i ≡ true → Applies (faultAt m i)
   at-turn zero i h l e = (l, e)
   at-turn (suc zero) i h l e = (l, e)
   at-turn (suc (suc zero)) i h l e = (l, e)
@@ -138,18 +137,18 @@ module _ (t : Table) (harvest plan : List ℕ) where
 
   abbrev pub Decided : Type 0
   Decided =
-      ((planSays t harvest plan ≡ gives tt) × ((f : PlanFault) → Applies f → ⊥))
-      ⊎ ((f : PlanFault) × (planSays t harvest plan ≡ faultSays f) × FirstIs f)
+      ((planSays d plan ≡ gives tt) × ((f : PlanFault) → Applies f → ⊥))
+      ⊎ ((f : PlanFault) × (planSays d plan ≡ faultSays f) × FirstIs f)
 
-  given-eleven : not (eqb (length plan) (t .slots)) ≡ true → Decided
+  given-eleven : not (eqb (length plan) (d .table .slots)) ≡ true → Decided
   unfolding planSays
   given-eleven e = inr (WrongLength, rw e, (e, none))
     where
-      none : (g : PlanFault) → planTurn t g < 0 → Applies g → ⊥
+      none : (g : PlanFault) → planTurn d g < 0 → Applies g → ⊥
       none g h a = omega arith
 
-  module _ (fits : not (eqb (length plan) (t .slots)) ≡ false) where
-    says-rest : planSays t harvest plan ≡ (inOrder (slotSays t harvest plan) (t .slots) else inOrder (endSays t plan) (t .count))
+  module _ (fits : not (eqb (length plan) (d .table .slots)) ≡ false) where
+    says-rest : planSays d plan ≡ (inOrder (slotSays d plan) (d .table .slots) else inOrder (endSays d plan) (d .table .count))
     unfolding planSays slotsSay
     says-rest = rw fits
 
@@ -162,7 +161,7 @@ module _ (t : Table) (harvest plan : List ℕ) where
             | no l ↦ let same : i ≡ j = omega arith in never-both e (subst (λ (s : ℕ). testAt n s ≡ false) same (lower n (omega arith)))
           ]
 
-      none-before : m < 4 → (g : PlanFault) → planTurn t g < 4 * i + 1 + m → i < t .slots → Applies g → ⊥
+      none-before : m < 4 → (g : PlanFault) → planTurn d g < 4 * i + 1 + m → i < d .table .slots → Applies g → ⊥
       none-before few WrongLength h l a = never-both a fits
       none-before few (NoJob j) h l a = not-earlier 0 j (omega arith) (omega arith) few (a .1)
       none-before few (OutsideWindow j) h l a = not-earlier 1 j (omega arith) (omega arith) few (a .1)
@@ -170,8 +169,8 @@ module _ (t : Table) (harvest plan : List ℕ) where
       none-before few (LacksCharge j) h l a = not-earlier 3 j (omega arith) (omega arith) few (a .1)
       none-before few (LacksSlots k) h l a = omega arith
 
-    given-slot : (i m : ℕ) → i < t .slots → m < 4 → ((j : ℕ) → j < i → slotSays t harvest plan j ≡ gives tt) → ((n : ℕ) → n < m → testAt n i ≡ false)
-        → testAt m i ≡ true → planSays t harvest plan ≡ faultSays (faultAt m i) → Decided
+    given-slot : (i m : ℕ) → i < d .table .slots → m < 4 → ((j : ℕ) → j < i → slotSays d plan j ≡ gives tt) → ((n : ℕ) → n < m → testAt n i ≡ false)
+        → testAt m i ≡ true → planSays d plan ≡ faultSays (faultAt m i) → Decided
     given-slot i m l few before lower holds says =
         inr (
           faultAt m i,
@@ -179,15 +178,15 @@ module _ (t : Table) (harvest plan : List ℕ) where
           (
             at-turn m i few l holds,
             (λ g h a.
-                none-before i m (λ j s. slot-clear j (before j s)) lower few g (subst (λ (n : ℕ). planTurn t g < n) (fault-turn t m i few) h) l a),
+                none-before i m (λ j s. slot-clear j (before j s)) lower few g (subst (λ (n : ℕ). planTurn d g < n) (fault-turn d m i few) h) l a),
           ),
         )
 
-    module _ (clear : (i : ℕ) → i < t .slots → slotSays t harvest plan i ≡ gives tt) where
-      no-slot : (m i : ℕ) → m < 4 → i < t .slots → testAt m i ≡ true → ⊥
+    module _ (clear : (i : ℕ) → i < d .table .slots → slotSays d plan i ≡ gives tt) where
+      no-slot : (m i : ℕ) → m < 4 → i < d .table .slots → testAt m i ≡ true → ⊥
       no-slot m i few l e = never-both e (slot-clear i (clear i l) m few)
 
-      none-at-all : ((k : ℕ) → k < t .count → lacksSlots t plan k ≡ false) → (g : PlanFault) → Applies g → ⊥
+      none-at-all : ((k : ℕ) → k < d .table .count → lacksSlots d plan k ≡ false) → (g : PlanFault) → Applies g → ⊥
       none-at-all ends WrongLength a = never-both a fits
       none-at-all ends (NoJob j) a = no-slot 0 j (omega arith) (a .0) (a .1)
       none-at-all ends (OutsideWindow j) a = no-slot 1 j (omega arith) (a .0) (a .1)
@@ -195,7 +194,7 @@ module _ (t : Table) (harvest plan : List ℕ) where
       none-at-all ends (LacksCharge j) a = no-slot 3 j (omega arith) (a .0) (a .1)
       none-at-all ends (LacksSlots k) a = never-both (a .1) (ends k (a .0))
 
-      none-below : (k : ℕ) → ((j : ℕ) → j < k → lacksSlots t plan j ≡ false) → (g : PlanFault) → planTurn t g < 4 * t .slots + 1 + k → Applies g → ⊥
+      none-below : (k : ℕ) → ((j : ℕ) → j < k → lacksSlots d plan j ≡ false) → (g : PlanFault) → planTurn d g < 4 * d .table .slots + 1 + k → Applies g → ⊥
       none-below k ends WrongLength h a = never-both a fits
       none-below k ends (NoJob j) h a = no-slot 0 j (omega arith) (a .0) (a .1)
       none-below k ends (OutsideWindow j) h a = no-slot 1 j (omega arith) (a .0) (a .1)
@@ -203,31 +202,31 @@ module _ (t : Table) (harvest plan : List ℕ) where
       none-below k ends (LacksCharge j) h a = no-slot 3 j (omega arith) (a .0) (a .1)
       none-below k ends (LacksSlots j) h a = never-both (a .1) (ends j (omega arith))
 
-      by-ends : inOrder (slotSays t harvest plan) (t .slots) ≡ gives tt → Decided
+      by-ends : inOrder (slotSays d plan) (d .table .slots) ≡ gives tt → Decided
       by-ends says =
-          let rest = says-rest ∙ else-goes-on (inOrder (slotSays t harvest plan) (t .slots)) (inOrder (endSays t plan) (t .count)) says in
+          let rest = says-rest ∙ else-goes-on (inOrder (slotSays d plan) (d .table .slots)) (inOrder (endSays d plan) (d .table .count)) says in
           ⊎-elim
-          (λ c. inl (rest ∙ c .1, none-at-all (λ k h. given-test (LacksSlots k) (lacksSlots t plan k) (c .0 k h))))
+          (λ c. inl (rest ∙ c .1, none-at-all (λ k h. given-test (LacksSlots k) (lacksSlots d plan k) (c .0 k h))))
           (λ w.
           let k = w .0 in
-          let holds = refused-test (LacksSlots k) (lacksSlots t plan k) (w .3) in
+          let holds = refused-test (LacksSlots k) (lacksSlots d plan k) (w .3) in
           inr (
             LacksSlots k,
-            rest ∙ w .4 ∙ ap (λ (b : Bool). LacksSlots k applies-when b) holds,
-            ((w .1, holds), none-below k (λ j l. given-test (LacksSlots j) (lacksSlots t plan j) (w .2 j l))),
+            rest ∙ w .4 ∙ ap (λ (b : Bool). faultSays (LacksSlots k) when b) holds,
+            ((w .1, holds), none-below k (λ j l. given-test (LacksSlots j) (lacksSlots d plan j) (w .2 j l))),
           ))
-          (in-order-decided (endSays t plan) (t .count))
+          (in-order-decided (endSays d plan) (d .table .count))
 
-    by-slot : (i : ℕ) → i < t .slots → ((j : ℕ) → j < i → slotSays t harvest plan j ≡ gives tt) → Refuses (slotSays t harvest plan i)
-        → inOrder (slotSays t harvest plan) (t .slots) ≡ slotSays t harvest plan i → Decided
+    by-slot : (i : ℕ) → i < d .table .slots → ((j : ℕ) → j < i → slotSays d plan j ≡ gives tt) → Refuses (slotSays d plan i)
+        → inOrder (slotSays d plan) (d .table .slots) ≡ slotSays d plan i → Decided
     by-slot i l before refused says =
         ⊎-elim
         (λ c. absurd (subst Refuses (c .1) refused))
         (λ w.
         given-slot i (w .0) l (w .1) before (w .2) (w .3)
         (says-rest
-        ∙ ap (λ (c : Check). c else inOrder (endSays t plan) (t .count)) says
-        ∙ else-stays (slotSays t harvest plan i) _ refused
+        ∙ ap (λ (c : Check). c else inOrder (endSays d plan) (d .table .count)) says
+        ∙ else-stays (slotSays d plan i) _ refused
         ∙ w .4))
         (slot-decided i)
 
@@ -239,58 +238,61 @@ module _ (t : Table) (harvest plan : List ℕ) where
       ⊎-elim
       (λ c. by-ends fits (c .0) (c .1))
       (λ w. by-slot fits (w .0) (w .1) (w .2) (w .3) (w .4))
-      (in-order-decided (slotSays t harvest plan) (t .slots)))
-      (either (not (eqb (length plan) (t .slots))))
+      (in-order-decided (slotSays d plan) (d .table .slots)))
+      (either (not (eqb (length plan) (d .table .slots))))
 
   -- ---- at most one refusal is the first
 
   atTurn : ℕ → PlanFault
   atTurn n =
       cond (eqb n 0) WrongLength
-      (cond (ltb n (4 * t .slots + 1)) (faultAt ((n - 1) % 4) ((n - 1) / 4)) (LacksSlots (n - (4 * t .slots + 1))))
+      (cond (ltb n (4 * d .table .slots + 1)) (faultAt ((n - 1) % 4) ((n - 1) / 4)) (LacksSlots (n - (4 * d .table .slots + 1))))
 
-  slot-back : (m i : ℕ) → m < 4 → i < t .slots → atTurn (4 * i + 1 + m) ≡ faultAt m i
+  slot-back : (m i : ℕ) → m < 4 → i < d .table .slots → atTurn (4 * i + 1 + m) ≡ faultAt m i
   unfolding atTurn
   slot-back m i few l =
-      let h : 4 * i + 1 + m < 4 * t .slots + 1 = omega arith in
+      let h : 4 * i + 1 + m < 4 * d .table .slots + 1 = omega arith in
       let which : (4 * i + 1 + m - 1) % 4 ≡ m = omega arith in
       let where-it-is : (4 * i + 1 + m - 1) / 4 ≡ i = omega arith in
       rw (ne-eqb (4 * i + 1 + m) 0 (λ e. omega arith), lt-ltb _ _ h, which, where-it-is)
 
-  turn-back : (f : PlanFault) → Applies f → atTurn (planTurn t f) ≡ f
+  turn-back : (f : PlanFault) → Applies f → atTurn (planTurn d f) ≡ f
   unfolding atTurn
   turn-back WrongLength a = refl
-  turn-back (NoJob i) a = ap atTurn (fault-turn t 0 i (omega arith)) ∙ slot-back 0 i (omega arith) (a .0)
-  turn-back (OutsideWindow i) a = ap atTurn (fault-turn t 1 i (omega arith)) ∙ slot-back 1 i (omega arith) (a .0)
-  turn-back (HasAllSlots i) a = ap atTurn (fault-turn t 2 i (omega arith)) ∙ slot-back 2 i (omega arith) (a .0)
-  turn-back (LacksCharge i) a = ap atTurn (fault-turn t 3 i (omega arith)) ∙ slot-back 3 i (omega arith) (a .0)
+  turn-back (NoJob i) a = ap atTurn (fault-turn d 0 i (omega arith)) ∙ slot-back 0 i (omega arith) (a .0)
+  turn-back (OutsideWindow i) a = ap atTurn (fault-turn d 1 i (omega arith)) ∙ slot-back 1 i (omega arith) (a .0)
+  turn-back (HasAllSlots i) a = ap atTurn (fault-turn d 2 i (omega arith)) ∙ slot-back 2 i (omega arith) (a .0)
+  turn-back (LacksCharge i) a = ap atTurn (fault-turn d 3 i (omega arith)) ∙ slot-back 3 i (omega arith) (a .0)
   turn-back (LacksSlots k) a =
-      let h : 4 * t .slots + 1 ≤ 4 * t .slots + 1 + k = omega arith in
-      let which : 4 * t .slots + 1 + k - (4 * t .slots + 1) ≡ k = omega arith in
-      rw (ne-eqb (4 * t .slots + 1 + k) 0 (λ e. omega arith), le-ltb _ _ h, which)
+      let h : 4 * d .table .slots + 1 ≤ 4 * d .table .slots + 1 + k = omega arith in
+      let which : 4 * d .table .slots + 1 + k - (4 * d .table .slots + 1) ≡ k = omega arith in
+      rw (ne-eqb (4 * d .table .slots + 1 + k) 0 (λ e. omega arith), le-ltb _ _ h, which)
 
   first-one : (f g : PlanFault) → FirstIs f → FirstIs g → f ≡ g
   first-one f g a b =
-      elim (decLt (planTurn t f) (planTurn t g)) [
+      elim (decLt (planTurn d f) (planTurn d g)) [
         | yes l ↦ absurd (b .1 f l (a .0))
         | no l ↦
-            elim (decLt (planTurn t g) (planTurn t f)) [
+            elim (decLt (planTurn d g) (planTurn d f)) [
               | yes m ↦ absurd (a .1 g m (b .0))
               | no m ↦
-                  let same : planTurn t f ≡ planTurn t g = omega arith in
+                  let same : planTurn d f ≡ planTurn d g = omega arith in
                   sym (turn-back f (a .0)) ∙ ap atTurn same ∙ turn-back g (b .0)
             ]
       ]
 
 -- ---- a refusal is told by its number and place
 
-faultMeant : Check → PlanFault
+unfoldable pub faultMeant : Check → PlanFault
 faultMeant (gives x) = WrongLength
 faultMeant (refuses n) = WrongLength
 faultMeant (refusesAt n k) =
-    cond (eqb n 12) (NoJob k) (cond (eqb n 13) (OutsideWindow k) (cond (eqb n 14) (HasAllSlots k) (cond (eqb n 15) (LacksCharge k) (LacksSlots k))))
+    cond (eqb n (numberOf (faultSays (NoJob k)))) (NoJob k)
+    (cond (eqb n (numberOf (faultSays (OutsideWindow k)))) (OutsideWindow k)
+    (cond (eqb n (numberOf (faultSays (HasAllSlots k)))) (HasAllSlots k)
+    (cond (eqb n (numberOf (faultSays (LacksCharge k)))) (LacksCharge k) (LacksSlots k))))
 
-fault-meant : (f : PlanFault) → faultMeant (faultSays f) ≡ f
+pub fault-meant : (f : PlanFault) → faultMeant (faultSays f) ≡ f
 unfolding faultMeant
 fault-meant WrongLength = refl
 fault-meant (NoJob i) = refl
@@ -305,22 +307,22 @@ fault-one f g e = sym (fault-meant f) ∙ ap faultMeant e ∙ fault-meant g
 
 -- ---- exactly when
 
-pub refused-exactly : (t : Table) (harvest plan : List ℕ) (f : PlanFault) → (planSays t harvest plan ≡ faultSays f) ↔ FirstIs t harvest plan f
-refused-exactly t harvest plan f = (
+pub refused-exactly : (d : Day) (plan : List ℕ) (f : PlanFault) → (planSays d plan ≡ faultSays f) ↔ FirstIs d plan f
+refused-exactly d plan f = (
   (λ e.
       ⊎-elim
       (λ c. absurd (fault-not-given f (sym e ∙ c .0)))
-      (λ w. subst (FirstIs t harvest plan) (fault-one (w .0) f (sym (w .1) ∙ e)) (w .2))
-      (decided t harvest plan)),
+      (λ w. subst (FirstIs d plan) (fault-one (w .0) f (sym (w .1) ∙ e)) (w .2))
+      (decided d plan)),
   (λ first.
       ⊎-elim
       (λ c. absurd (c .1 f (first .0)))
-      (λ w. w .1 ∙ ap faultSays (first-one t harvest plan (w .0) f (w .2) first))
-      (decided t harvest plan)),
+      (λ w. w .1 ∙ ap faultSays (first-one d plan (w .0) f (w .2) first))
+      (decided d plan)),
 )
 
-pub accepted-when-clear : (t : Table) (harvest plan : List ℕ) → (planSays t harvest plan ≡ gives tt) ↔ ((f : PlanFault) → Applies t harvest plan f → ⊥)
-accepted-when-clear t harvest plan = (
-  (λ e. ⊎-elim (λ c. c .1) (λ w. absurd (fault-not-given (w .0) (sym (w .1) ∙ e))) (decided t harvest plan)),
-  (λ none. ⊎-elim (λ c. c .0) (λ w. absurd (none (w .0) (w .2 .0))) (decided t harvest plan)),
+pub accepted-when-clear : (d : Day) (plan : List ℕ) → (planSays d plan ≡ gives tt) ↔ ((f : PlanFault) → Applies d plan f → ⊥)
+accepted-when-clear d plan = (
+  (λ e. ⊎-elim (λ c. c .1) (λ w. absurd (fault-not-given (w .0) (sym (w .1) ∙ e))) (decided d plan)),
+  (λ none. ⊎-elim (λ c. c .0) (λ w. absurd (none (w .0) (w .2 .0))) (decided d plan)),
 )

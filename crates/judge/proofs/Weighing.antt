@@ -2,13 +2,12 @@
 use Prim.Native.Nat.{ℕ}
 use mathlib.Core.Path.{_≡_, refl, ap₂, _∙_}
 use mathlib.Core.Bool.{Bool, cond}
+use mathlib.Core.List.{List}
 use Rattle.sheet.specs.Sums.{total}
-use Rattle.sheet.specs.Table.{jobOf}
+use Rattle.sheet.specs.Table.{jobOf, dayOf}
 use Rattle.sheet.specs.declared.Table.{Table}
-use Rattle.demand.specs.Demand.{within, timeDemand, energyDemand, demandOf}
+use Rattle.demand.specs.Demand.{within, shareOf, demandOf}
 use Rattle.demand.specs.declared.Kind.{Kind}
-use Rattle.demand.specs.declared.Kind.the-variants.{Time, Energy}
-use Rattle.judge.specs.Steps.{shareOf}
 
 -- what job k adds to the demand of an interval
 abbrev pub partOf : Kind → Table → ℕ → ℕ → ℕ → ℕ
@@ -20,7 +19,6 @@ pub part-read : (kind : Kind) (t : Table) (from to k part share : ℕ) (counts :
 part-read kind t from to k part share counts w s e = e ∙ ap₂ (λ (b : Bool) (x : ℕ). cond b x 0) w s
 
 -- the demand of an interval is the sum over all jobs
-pub demand-is : (kind : Kind) (t : Table) (from to : ℕ) → total (partOf kind t from to) (t .count) ≡ demandOf kind t from to
-unfolding timeDemand energyDemand
-demand-is Time t from to = refl
-demand-is Energy t from to = refl
+pub demand-is : (kind : Kind) (t : Table) (harvest : List ℕ) (from to : ℕ) → total (partOf kind t from to) (t .count) ≡ demandOf kind (dayOf t harvest) from to
+unfolding demandOf
+demand-is kind t harvest from to = refl

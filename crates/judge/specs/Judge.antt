@@ -4,25 +4,24 @@ use mathlib.Core.List.{List}
 use mathlib.Core.Bool.{Bool, cond, not, _&&_, _||_}
 use lib.Dec.{ltb, leb, eqb}
 use lib.ListN.{length}
-use Rattle.sheet.specs.Paper.{Check, gives, _given-when_, _else_, inOrder, whereGiven}
+use Rattle.sheet.specs.HandedIn.{HandedIn, checkSays, dayIn}
+use Rattle.sheet.specs.Paper.{Check, gives, _when_, _else_, inOrder, whereGiven}
 use Rattle.sheet.specs.Sums.{harvestAt}
-use Rattle.sheet.specs.Table.{idleByte, jobOf, tableSays}
-use Rattle.sheet.specs.Sheet.{sheetSays, tableIn, harvestIn}
+use Rattle.sheet.specs.Table.{idleByte, jobOf, Day}
 use Rattle.sheet.specs.declared.Job.{Job}
-use Rattle.sheet.specs.declared.Table.{Table}
 use Rattle.demand.specs.Demand.{kindNumber, demandOf, supplyOf, overloaded}
 use Rattle.demand.specs.declared.Kind.{Kind}
 use Rattle.demand.specs.declared.Kind.the-variants.{Time, Energy}
 use Rattle.judge.specs.Evidence.{byteOf, namesJob, slotsGot, levelAt}
-use Rattle.judge.specs.Numbers.{_applies-when_, noIntervalNumber, notOverloadedNumber}
+use Rattle.judge.specs.Numbers.{faultSays, noInterval, notOverloaded}
 use Rattle.judge.specs.declared.PlanFault.the-variants.{WrongLength, NoJob, OutsideWindow, HasAllSlots, LacksCharge, LacksSlots}
 use Rattle.judge.specs.declared.Sums.{Sums}
 
 -- ---- a plan
 
 -- "a plan byte is neither 255 nor a job's number"
-unfoldable pub namesNothing : Table → List ℕ → ℕ → Bool
-namesNothing t plan i = not (eqb (byteOf plan i) idleByte || namesJob t plan i)
+unfoldable pub namesNothing : Day → List ℕ → ℕ → Bool
+namesNothing d plan i = not (eqb (byteOf plan i) idleByte || namesJob d plan i)
 
 -- "that job may not run in that slot"
 abbrev pub outsideWindow : Job → ℕ → Bool
@@ -39,36 +38,33 @@ lacksCharge j charge = ltb charge (j .energy)
 -- slot i, of a job that got so many slots before and finds that much charge: 13, 14, 15
 unfoldable pub jobSays : Job → (i got charge : ℕ) → Check
 jobSays j i got charge =
-    OutsideWindow i applies-when outsideWindow j i
-    else HasAllSlots i applies-when hasAllSlots j got
-    else LacksCharge i applies-when lacksCharge j charge
+    faultSays (OutsideWindow i) when outsideWindow j i
+    else faultSays (HasAllSlots i) when hasAllSlots j got
+    else faultSays (LacksCharge i) when lacksCharge j charge
 
 -- slot i of a plan: 12, and then its job
-unfoldable pub slotSays : Table → List ℕ → List ℕ → ℕ → Check
-slotSays t harvest plan i =
-    NoJob i applies-when namesNothing t plan i
-    else cond (namesJob t plan i)
-    (jobSays (jobOf t (byteOf plan i)) i (slotsGot plan (byteOf plan i) i) (levelAt t harvest plan i + harvestAt harvest i))
+unfoldable pub slotSays : Day → List ℕ → ℕ → Check
+slotSays d plan i =
+    faultSays (NoJob i) when namesNothing d plan i
+    else cond (namesJob d plan i)
+    (jobSays (jobOf (d .table) (byteOf plan i)) i (slotsGot plan (byteOf plan i) i) (levelAt d plan i + harvestAt (d .harvest) i))
     (gives tt)
 
 -- "after the last slot a job lacks slots"
-abbrev pub endSays : Table → List ℕ → ℕ → Check
-endSays t plan k = LacksSlots k applies-when ltb (slotsGot plan k (t .slots)) (jobOf t k .wanted)
+abbrev pub endSays : Day → List ℕ → ℕ → Check
+endSays d plan k = faultSays (LacksSlots k) when ltb (slotsGot plan k (d .table .slots)) (jobOf (d .table) k .wanted)
 
 -- slot by slot, and then 16, "lowest such job named"
-unfoldable pub slotsSay : Table → List ℕ → List ℕ → Check
-slotsSay t harvest plan = inOrder (slotSays t harvest plan) (t .slots) else inOrder (endSays t plan) (t .count)
+unfoldable pub slotsSay : Day → List ℕ → Check
+slotsSay d plan = inOrder (slotSays d plan) (d .table .slots) else inOrder (endSays d plan) (d .table .count)
 
 -- "judged plan's length is not slots", and then the slots
-unfoldable pub planSays : Table → List ℕ → List ℕ → Check
-planSays t harvest plan = WrongLength applies-when not (eqb (length plan) (t .slots)) else slotsSay t harvest plan
+unfoldable pub planSays : Day → List ℕ → Check
+planSays d plan = faultSays WrongLength when not (eqb (length plan) (d .table .slots)) else slotsSay d plan
 
--- on a table with its harvest, and on a sheet
-unfoldable pub planOnTable : Table → List ℕ → List ℕ → Check
-planOnTable t harvest plan = tableSays t harvest else planSays t harvest plan
-
-unfoldable pub planOnSheet : List ℕ → List ℕ → Check
-planOnSheet s plan = sheetSays s else planSays (tableIn s) (harvestIn s) plan
+-- on what is checked first
+unfoldable pub judgedPlan : HandedIn → List ℕ → Check
+judgedPlan h plan = checkSays h else planSays (dayIn h) plan
 
 -- ---- a claim: the number of a kind, and the slots from .. to - 1
 
@@ -82,31 +78,22 @@ claimFault slots number from to =
     not (eqb number (kindNumber Time) || eqb number (kindNumber Energy)) || not (ltb from to) || ltb slots to
 
 -- 17, and then 18, "claimed interval is not overloaded in the claimed kind"
-unfoldable pub claimSays : Table → List ℕ → (number from to : ℕ) → Check
-claimSays t harvest number from to =
-    noIntervalNumber given-when claimFault (t .slots) number from to
-    else notOverloadedNumber given-when not (overloaded (kindOf number) t harvest from to)
+unfoldable pub claimSays : Day → (number from to : ℕ) → Check
+claimSays d number from to =
+    noInterval when claimFault (d .table .slots) number from to
+    else notOverloaded when not (overloaded (kindOf number) d from to)
 
-unfoldable pub claimOnTable : Table → List ℕ → (number from to : ℕ) → Check
-claimOnTable t harvest number from to = tableSays t harvest else claimSays t harvest number from to
-
-unfoldable pub claimOnSheet : List ℕ → (number from to : ℕ) → Check
-claimOnSheet s number from to = sheetSays s else claimSays (tableIn s) (harvestIn s) number from to
+unfoldable pub judgedClaim : HandedIn → (number from to : ℕ) → Check
+judgedClaim h number from to = checkSays h else claimSays (dayIn h) number from to
 
 -- the demand and the supply of an interval in a kind
-unfoldable pub sumsOf : Kind → Table → List ℕ → (from to : ℕ) → Sums
-sumsOf kind t harvest from to = record { demand = demandOf kind t from to; supply = supplyOf kind t harvest from to }
+unfoldable pub sumsOf : Kind → Day → (from to : ℕ) → Sums
+sumsOf kind d from to = record { demand = demandOf kind d from to; supply = supplyOf kind d from to }
 
 abbrev pub noSums : Sums
 noSums = record { demand = 0; supply = 0 }
 
 -- those of the claimed interval in the claimed kind; both 0 where 1 to 6 or 17 refuse
-unfoldable pub sumsBy : Check → Table → List ℕ → (number from to : ℕ) → Sums
-sumsBy checked t harvest number from to =
-    whereGiven (checked else noIntervalNumber given-when claimFault (t .slots) number from to) (sumsOf (kindOf number) t harvest from to) noSums
-
-unfoldable pub sumsOnTable : Table → List ℕ → (number from to : ℕ) → Sums
-sumsOnTable t harvest = sumsBy (tableSays t harvest) t harvest
-
-unfoldable pub sumsOnSheet : List ℕ → (number from to : ℕ) → Sums
-sumsOnSheet s = sumsBy (sheetSays s) (tableIn s) (harvestIn s)
+unfoldable pub judgedSums : HandedIn → (number from to : ℕ) → Sums
+judgedSums h number from to =
+    whereGiven (checkSays h else noInterval when claimFault (dayIn h .table .slots) number from to) (sumsOf (kindOf number) (dayIn h) from to) noSums

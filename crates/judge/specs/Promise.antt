@@ -1,12 +1,12 @@
--- What the judge promises, for any sheet, table, harvest, plan and claim. A plan that is judged is read and never written.
+-- What the judge promises, for anything handed in, any plan and any claim. A plan that is judged is read and never written.
 use Prim.Native.Nat.{ℕ}
 use mathlib.Core.Path.{_≡_}
 use mathlib.Core.List.{List}
-use Rattle.sheet.specs.Paper.{Check, gives, refuses}
+use Rattle.sheet.specs.HandedIn.{HandedIn}
+use Rattle.sheet.specs.Paper.{Check, gives}
 use Rattle.sheet.specs.Refusals.{refusalSays}
-use Rattle.sheet.specs.declared.Table.{Table}
-use Rattle.judge.specs.Judge.{planOnTable, planOnSheet, claimOnTable, claimOnSheet, noSums, sumsOnTable, sumsOnSheet}
-use Rattle.judge.specs.Numbers.{faultSays, noIntervalNumber, notOverloadedNumber}
+use Rattle.judge.specs.Judge.{judgedPlan, judgedClaim, noSums, judgedSums}
+use Rattle.judge.specs.Numbers.{faultSays, noInterval, notOverloaded}
 use Rattle.judge.specs.declared.JudgedPlan.{JudgedPlan}
 use Rattle.judge.specs.declared.JudgedPlan.the-variants as Plan
 use Rattle.judge.specs.declared.Sums.{Sums}
@@ -19,11 +19,14 @@ planAnswered (Plan.Refused r) = refusalSays r
 planAnswered (Plan.Faulty f) = faultSays f
 planAnswered Plan.Accepted = gives tt
 
+pub record JudgesPlan (h : HandedIn) (plan : List ℕ) (r : JudgedPlan) : Type 0 where
+  pub answer : planAnswered r ≡ judgedPlan h plan
+
 -- the answer to a claim as the paper writes it, and the sums that it tells
 abbrev pub claimAnswered : JudgedClaim → Check
 claimAnswered (Claim.Refused r) = refusalSays r
-claimAnswered Claim.NoInterval = refuses noIntervalNumber
-claimAnswered (Claim.NotOverloaded sums) = refuses notOverloadedNumber
+claimAnswered Claim.NoInterval = noInterval
+claimAnswered (Claim.NotOverloaded sums) = notOverloaded
 claimAnswered (Claim.Accepted sums) = gives tt
 
 abbrev pub sumsTold : JudgedClaim → Sums
@@ -32,16 +35,6 @@ sumsTold Claim.NoInterval = noSums
 sumsTold (Claim.NotOverloaded sums) = sums
 sumsTold (Claim.Accepted sums) = sums
 
-pub record JudgesTablePlan (t : Table) (harvest plan : List ℕ) (r : JudgedPlan) : Type 0 where
-  pub answer : planAnswered r ≡ planOnTable t harvest plan
-
-pub record JudgesSheetPlan (s plan : List ℕ) (r : JudgedPlan) : Type 0 where
-  pub answer : planAnswered r ≡ planOnSheet s plan
-
-pub record JudgesTableClaim (t : Table) (harvest : List ℕ) (number from to : ℕ) (r : JudgedClaim) : Type 0 where
-  pub answer : claimAnswered r ≡ claimOnTable t harvest number from to
-  pub sums : sumsTold r ≡ sumsOnTable t harvest number from to
-
-pub record JudgesSheetClaim (s : List ℕ) (number from to : ℕ) (r : JudgedClaim) : Type 0 where
-  pub answer : claimAnswered r ≡ claimOnSheet s number from to
-  pub sums : sumsTold r ≡ sumsOnSheet s number from to
+pub record JudgesClaim (h : HandedIn) (number from to : ℕ) (r : JudgedClaim) : Type 0 where
+  pub answer : claimAnswered r ≡ judgedClaim h number from to
+  pub sums : sumsTold r ≡ judgedSums h number from to

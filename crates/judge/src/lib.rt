@@ -10,16 +10,18 @@ ghost use mathlib.Core.Path.{_≡_};
 ghost use mathlib.Core.Bool.{_&&_};
 ghost use lib.Dec.{ltb, leb};
 ghost use lib.ListN.{length};
-ghost use Prim.Native.Nat.{_<_, _≤_};
-ghost use Rattle.sheet.specs.InColumns.{mostCost};
-ghost use Rattle.sheet.specs.Sums.{harvestOf, mostHarvest};
-ghost use Rattle.sheet.specs.Table.{mostJobs, mostSlots};
-ghost use Rattle.sheet.specs.WellFormed.{GoodTable};
-ghost use Rattle.demand.specs.Demand.{demandOf};
-ghost use Rattle.judge.specs.Judge.{jobSays, slotsSay, planSays, claimFault, kindOf, sumsOf};
-ghost use Rattle.judge.specs.Numbers.{faultSays, numberOf};
-ghost use Rattle.judge.specs.Promise.{planAnswered, claimAnswered, JudgesTablePlan, JudgesSheetPlan, JudgesTableClaim, JudgesSheetClaim};
-ghost use Rattle.judge.specs.Steps.{findingSays, endsBy, shareOf, ClaimJudged};
+ghost use mathlib.Core.List.{List};
+ghost use Prim.Native.Nat.{ℕ, _<_, _≤_};
+ghost use Rattle.sheet.specs.HandedIn.{onSheet, onTable};
+ghost use Rattle.sheet.specs.Paper.{numberOf, placeOf};
+ghost use Rattle.sheet.specs.Sums.{harvestOf, mostHarvest, mostCost};
+ghost use Rattle.sheet.specs.Table.{mostJobs, mostSlots, dayOf};
+ghost use Rattle.sheet.specs.WellFormed.{GoodDay};
+ghost use Rattle.demand.specs.Demand.{shareOf, demandOf};
+ghost use Rattle.judge.specs.Judge.{jobSays, slotsSay, claimFault, kindOf, sumsOf};
+ghost use Rattle.judge.specs.Numbers.{faultSays};
+ghost use Rattle.judge.specs.Promise.{claimAnswered, JudgesPlan, JudgesClaim};
+ghost use Rattle.judge.specs.Steps.{findingSays, endsBy};
 
 // Why a plan is refused, with the slot, and for 16 the job, that document 01 names.
 pub enum PlanFault {
@@ -80,14 +82,33 @@ pub fn number(fault: PlanFault) -> u8
     }
 }
 
+// The slot, or for 16 the job, that a plan's refusal names; 0 where it names none.
+pub fn place(fault: PlanFault) -> usize
+    ensures { λ r. ⌜ r ≡ placeOf (faultSays fault) ⌝ }
+{
+    match fault {
+        PlanFault::WrongLength => 0,
+        PlanFault::NoJob(slot) => slot,
+        PlanFault::OutsideWindow(slot) => slot,
+        PlanFault::HasAllSlots(slot) => slot,
+        PlanFault::LacksCharge(slot) => slot,
+        PlanFault::LacksSlots(job) => job,
+    }
+}
+
+// The numbers in document 01 of a claim's two refusals.
+pub const NO_INTERVAL: u8 = 17;
+
+pub const NOT_OVERLOADED: u8 = 18;
+
 // The number in document 01 of the answer to a claim; 0 where it is accepted.
 pub fn claim_number(answer: JudgedClaim) -> u8
     ensures { λ r. ⌜ r ≡ numberOf (claimAnswered answer) ⌝ }
 {
     match answer {
         JudgedClaim::Refused(why) => sheet::number(why),
-        JudgedClaim::NoInterval => 17,
-        JudgedClaim::NotOverloaded(_) => 18,
+        JudgedClaim::NoInterval => NO_INTERVAL,
+        JudgedClaim::NotOverloaded(_) => NOT_OVERLOADED,
         JudgedClaim::Accepted(_) => 0,
     }
 }
@@ -145,8 +166,8 @@ fn judge_ends(t: Table, got: &[u16; sheet::MOST_JOBS]) -> Finding
 // 12 to 16, in one pass over a plan of slots bytes: the slots that each job got so far and the level
 // are carried along. The table and the harvest were checked.
 fn judge_slots(t: Table, harvest: &[u8], plan: &[u8]) -> Finding
-    requires { ⌜ GoodTable t (now harvest) × (length (now plan) ≡ t .slots) ⌝ }
-    ensures { λ r. ⌜ findingSays r ≡ slotsSay t (now (harvest .entry)) (now (plan .entry)) ⌝ }
+    requires { ⌜ GoodDay (dayOf t (now harvest)) × (length (now plan) ≡ t .slots) ⌝ }
+    ensures { λ r. ⌜ findingSays r ≡ slotsSay (dayOf t (now (harvest .entry))) (now (plan .entry)) ⌝ }
 {
     let count = t.count;
     let mut got = [0u16; sheet::MOST_JOBS];
@@ -175,8 +196,8 @@ fn judge_slots(t: Table, harvest: &[u8], plan: &[u8]) -> Finding
 
 // 11 to 16, for a table and a harvest that were checked.
 fn judge_plan(t: Table, harvest: &[u8], plan: &[u8]) -> JudgedPlan
-    requires { ⌜ GoodTable t (now harvest) ⌝ }
-    ensures { λ r. ⌜ planAnswered r ≡ planSays t (now (harvest .entry)) (now (plan .entry)) ⌝ }
+    requires { ⌜ GoodDay (dayOf t (now harvest)) ⌝ }
+    ensures { λ r. ⌜ JudgesPlan (onTable t (now (harvest .entry))) (now (plan .entry)) r ⌝ }
 {
     if plan.len() != t.slots as usize {
         return JudgedPlan::Faulty(PlanFault::WrongLength);
@@ -191,7 +212,7 @@ fn judge_plan(t: Table, harvest: &[u8], plan: &[u8]) -> JudgedPlan
 // It takes any table, harvest and plan; it refuses 3, 4, 5 and 6 as every call does, then the plan by
 // 11 to 16, and otherwise accepts it. It writes nothing.
 pub fn plan_on_table(t: Table, harvest: &[u8], plan: &[u8]) -> JudgedPlan
-    ensures { λ r. ⌜ JudgesTablePlan t (now (harvest .entry)) (now (plan .entry)) r ⌝ }
+    ensures { λ r. ⌜ JudgesPlan (onTable t (now (harvest .entry))) (now (plan .entry)) r ⌝ }
 {
     let outcome = sheet::check(t, harvest);
     if let Outcome::Refused(why) = outcome {
@@ -202,7 +223,7 @@ pub fn plan_on_table(t: Table, harvest: &[u8], plan: &[u8]) -> JudgedPlan
 
 // Judges a plan against a sheet, from any bytes: the same, with the sheet's own refusals 1 to 6 first.
 pub fn plan_on_sheet(bytes: &[u8], plan: &[u8]) -> JudgedPlan
-    ensures { λ r. ⌜ JudgesSheetPlan (now (bytes .entry)) (now (plan .entry)) r ⌝ }
+    ensures { λ r. ⌜ JudgesPlan (onSheet (now (bytes .entry))) (now (plan .entry)) r ⌝ }
 {
     let reading = reader::read(bytes);
     let outcome = reading.outcome;
@@ -256,7 +277,7 @@ fn share(kind: Kind, j: Job) -> u32
 // The demand of an interval, in one kind. The table has at most 64 jobs.
 fn demand_of(t: Table, kind: Kind, from: u16, to: u16) -> u32
     requires { ⌜ t .count ≤ mostJobs ⌝ }
-    ensures { λ r. ⌜ r ≡ demandOf kind t from to ⌝ }
+    ensures { λ r. ⌜ ((harvest : List ℕ) → r ≡ demandOf kind (dayOf t harvest) from to) ⌝ }
 {
     let count = t.count;
     let mut demand: u32 = 0;
@@ -287,8 +308,8 @@ fn harvest_of(harvest: &[u8], from: usize, to: usize) -> u32
 // The demand and the supply of an interval of the day, in one kind. The table and the harvest were
 // checked.
 fn weigh(t: Table, harvest: &[u8], kind: Kind, from: u16, to: u16) -> Sums
-    requires { ⌜ GoodTable t (now harvest) × (from < to) × (to ≤ t .slots) ⌝ }
-    ensures { λ r. ⌜ r ≡ sumsOf kind t (now (harvest .entry)) from to ⌝ }
+    requires { ⌜ GoodDay (dayOf t (now harvest)) × (from < to) × (to ≤ t .slots) ⌝ }
+    ensures { λ r. ⌜ r ≡ sumsOf kind (dayOf t (now (harvest .entry))) from to ⌝ }
 {
     let demand = demand_of(t, kind, from, to);
     let supply = match kind {
@@ -300,8 +321,8 @@ fn weigh(t: Table, harvest: &[u8], kind: Kind, from: u16, to: u16) -> Sums
 
 // 17 and 18, for a table and a harvest that were checked.
 fn judge_claim(t: Table, harvest: &[u8], kind: u64, start: u64, end: u64) -> JudgedClaim
-    requires { ⌜ GoodTable t (now harvest) ⌝ }
-    ensures { λ r. ⌜ ClaimJudged t (now (harvest .entry)) kind start end r ⌝ }
+    requires { ⌜ GoodDay (dayOf t (now harvest)) ⌝ }
+    ensures { λ r. ⌜ JudgesClaim (onTable t (now (harvest .entry))) kind start end r ⌝ }
 {
     if claim_fault(t.slots, kind, start, end) {
         return JudgedClaim::NoInterval;
@@ -319,7 +340,7 @@ fn judge_claim(t: Table, harvest: &[u8], kind: u64, start: u64, end: u64) -> Jud
 // 3, 4, 5 and 6 as every call does, then 17 and 18, and otherwise accepts the claim. With 18 and with
 // an accepted claim it tells the interval's demand and supply. It writes nothing.
 pub fn claim_on_table(t: Table, harvest: &[u8], kind: u64, start: u64, end: u64) -> JudgedClaim
-    ensures { λ r. ⌜ JudgesTableClaim t (now (harvest .entry)) kind start end r ⌝ }
+    ensures { λ r. ⌜ JudgesClaim (onTable t (now (harvest .entry))) kind start end r ⌝ }
 {
     let outcome = sheet::check(t, harvest);
     if let Outcome::Refused(why) = outcome {
@@ -330,7 +351,7 @@ pub fn claim_on_table(t: Table, harvest: &[u8], kind: u64, start: u64, end: u64)
 
 // Judges a claim against a sheet, from any bytes: the same, with the sheet's own refusals 1 to 6 first.
 pub fn claim_on_sheet(bytes: &[u8], kind: u64, start: u64, end: u64) -> JudgedClaim
-    ensures { λ r. ⌜ JudgesSheetClaim (now (bytes .entry)) kind start end r ⌝ }
+    ensures { λ r. ⌜ JudgesClaim (onSheet (now (bytes .entry))) kind start end r ⌝ }
 {
     let reading = reader::read(bytes);
     let outcome = reading.outcome;

@@ -37,7 +37,7 @@ fn print_overload(o: Overload) {
 }
 
 // Prints the planner's answer: the verdict, or the refusal's number.
-pub fn print_answer(answer: Planned) {
+fn print_answer(answer: Planned) {
     match answer {
         Planned::Met => print::word(b"met"),
         Planned::Undecided(k) => {
@@ -45,16 +45,13 @@ pub fn print_answer(answer: Planned) {
             print::number(k);
         }
         Planned::Overloaded(o) => print_overload(o),
-        Planned::Refused(why) => {
-            print::word(b"refused ");
-            print::number(sheet::number(why) as usize);
-        }
-        Planned::WrongPlan => print::word(b"refused 7"),
+        Planned::Refused(why) => print::refused(sheet::number(why)),
+        Planned::WrongPlan => print::refused(planner::WRONG_PLAN),
     }
 }
 
 // Prints why a slot is busy.
-pub fn print_busy(why: BusyWhy) {
+fn print_busy(why: BusyWhy) {
     match why {
         BusyWhy::Full => print::word(b"full"),
         BusyWhy::NoSlack => print::word(b"noslack"),
@@ -63,7 +60,7 @@ pub fn print_busy(why: BusyWhy) {
 }
 
 // Prints why a slot is idle.
-pub fn print_idle(why: IdleWhy) {
+fn print_idle(why: IdleWhy) {
     match why {
         IdleWhy::None => print::word(b"none"),
         IdleWhy::Empty => print::word(b"empty"),

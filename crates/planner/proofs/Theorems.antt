@@ -1,87 +1,107 @@
--- The theorems on the planner that are worth quoting.
+-- The theorems on the planner that are worth quoting, of any answer and buffer that its promise allows, once for whatever was handed in.
 use Prim.Native.Nat.{ℕ}
-use mathlib.Core.Path.{_≡_, refl, sym, ap, _∙_}
-use mathlib.Core.Bool.{true, not, cond}
-use mathlib.Core.Logic.{_↔_, Iff·trans, Iff·and}
+use mathlib.Core.Path.{_≡_, refl, sym, ap, _∙_, subst}
+use mathlib.Core.Bool.{not}
+use mathlib.Core.Logic.{_↔_, Iff·trans}
 use mathlib.Core.List.{List}
-use lib.Dec.{eqb, lit<}
+use lib.Dec.{eqb}
 use lib.ListN.{length}
-use borrow.Author.Tests.{ne-eqb, eqb-false, not-true}
-use Rattle.sheet.specs.Sheet.{slotsIn, tableIn, harvestIn, sheetFaults, sheetSays}
-use Rattle.sheet.specs.Table.{tableFaults, tableSays}
-use Rattle.sheet.specs.WellFormed.{GoodTable, WellFormed, sheetStates, tableStates, GivenFirst}
-use Rattle.sheet.specs.Refusals.{refusalSays}
-use Rattle.sheet.specs.declared.Refusal.{Refusal}
-use Rattle.sheet.proofs.Exactly.{own-refusal-exactly, own-no-refusal}
-use Rattle.sheet.proofs.Theorems.{table-accepted-exactly, sheet-accepted-exactly, call-on-sheet-refused-exactly, call-on-table-refused-exactly}
+use Rattle.sheet.specs.HandedIn.{HandedIn, onSheet, onTable, dayIn, Sound, states}
 use Rattle.sheet.specs.Paper.{Paper, gives, refuses, refusesAt}
-use Rattle.sheet.specs.declared.Refusal.the-variants.{Short, Mark, Counts, Layout, Window, Work}
+use Rattle.sheet.specs.Sheet.{slotsIn, tableIn}
+use Rattle.sheet.specs.Table.{dayOf}
+use Rattle.sheet.specs.WellFormed.{GoodDay, WellFormed, sheetStates, tableStates, GivenFirst}
+use Rattle.sheet.specs.declared.Refusal.{Refusal}
 use Rattle.sheet.specs.declared.Table.{Table}
+use Rattle.sheet.proofs.HandedIn.{handed-on-exactly, asked-exactly}
+use Rattle.sheet.proofs.Order.{Refuses, where-refused}
+use Rattle.sheet.proofs.Refusals.{byRefusal, by-refusal, refusal-refuses, sheetHas, own-given, own-else}
+use Rattle.sheet.proofs.Stated.{differs, with-place}
+use Rattle.demand.specs.Search.{overloadSays}
+use Rattle.demand.specs.declared.Overload.{Overload}
 use Rattle.demand.proofs.Theorems.{overloadMeant, overload-back}
-use Rattle.planner.specs.Plan.{Verdict, overloaded, met, undecided, verdictOf, planTable, planSheet}
-use Rattle.planner.specs.Promise.{plannedSays, PlansTable, PlansSheet}
+use Rattle.slot_run.specs.Rules.{planOf}
+use Rattle.planner.specs.Plan.{Verdict, overloaded, met, undecided, verdictOf, wrongPlan, planFor, bufferBy, planLeft}
+use Rattle.planner.specs.Promise.{plannedSays, Plans}
 use Rattle.planner.specs.declared.Planned.{Planned}
 use Rattle.planner.specs.declared.Planned.the-variants.{Refused, WrongPlan, Overloaded, Met, Undecided}
 
--- ---- any two results that a promise allows are equal
+-- ---- any two results that the promise allows are equal: the answer, and every byte of the buffer
 
-plannedMeant : Paper Verdict → Planned
-plannedMeant (gives (overloaded i)) = Overloaded (overloadMeant i)
-plannedMeant (gives met) = Met
-plannedMeant (gives (undecided k)) = Undecided k
-plannedMeant (refuses n) =
-    cond (eqb n 1) (Refused Short) (cond (eqb n 2) (Refused Mark) (cond (eqb n 3) (Refused Counts) (cond (eqb n 4) (Refused Layout) WrongPlan)))
-plannedMeant (refusesAt n k) = cond (eqb n 5) (Refused (Window k)) (Refused (Work k))
-
-planned-meant : (r : Planned) → plannedMeant (plannedSays r) ≡ r
-unfolding plannedMeant
-planned-meant (Refused Short) = refl
-planned-meant (Refused Mark) = refl
-planned-meant (Refused Counts) = refl
-planned-meant (Refused Layout) = refl
-planned-meant (Refused (Window k)) = refl
-planned-meant (Refused (Work k)) = refl
-planned-meant WrongPlan = refl
-planned-meant (Overloaded o) = ap Overloaded (overload-back o)
-planned-meant Met = refl
-planned-meant (Undecided k) = refl
+ownMeant : Paper Verdict → Planned
+ownMeant (gives (overloaded i)) = Overloaded (overloadMeant i)
+ownMeant (gives met) = Met
+ownMeant (gives (undecided k)) = Undecided k
+ownMeant (refuses n) = WrongPlan
+ownMeant (refusesAt n k) = WrongPlan
 
 says-one-answer : (r q : Planned) → plannedSays r ≡ plannedSays q → r ≡ q
-says-one-answer r q e = sym (planned-meant r) ∙ ap plannedMeant e ∙ planned-meant q
+unfolding byRefusal ownMeant
+says-one-answer r q e = sym (meant r) ∙ ap (λ (a : Paper Verdict). byRefusal Refused (ownMeant a) a) e ∙ meant q
+  where
+    meant : (p : Planned) → byRefusal Refused (ownMeant (plannedSays p)) (plannedSays p) ≡ p
+    meant (Refused why) = by-refusal Verdict Refused _ why
+    meant WrongPlan = refl
+    meant (Overloaded o) = ap Overloaded (overload-back o)
+    meant Met = refl
+    meant (Undecided k) = refl
 
-pub one-table-plan : {t : Table} {harvest plan after after′ : List ℕ} {r q : Planned} → PlansTable t harvest plan r after → PlansTable t harvest plan q after′
-    → (r ≡ q) × (after ≡ after′)
-one-table-plan {r = r} {q = q} a b = (says-one-answer r q (a .answer ∙ sym (b .answer)), a .buffer ∙ sym (b .buffer))
+pub one-plan : {h : HandedIn} {plan after after′ : List ℕ} {r q : Planned} → Plans h plan r after → Plans h plan q after′ → (r ≡ q) × (after ≡ after′)
+one-plan {r = r} {q = q} a b = (says-one-answer r q (a .answer ∙ sym (b .answer)), a .buffer ∙ sym (b .buffer))
 
-pub one-sheet-plan : {s plan after after′ : List ℕ} {r q : Planned} → PlansSheet s plan r after → PlansSheet s plan q after′ → (r ≡ q) × (after ≡ after′)
-one-sheet-plan {r = r} {q = q} a b = (says-one-answer r q (a .answer ∙ sym (b .answer)), a .buffer ∙ sym (b .buffer))
+module _ (h : HandedIn) (plan : List ℕ) (r : Planned) (after : List ℕ) (planned : Plans h plan r after) where
+  as-said : (q : Planned) → (r ≡ q) ↔ (planFor h plan ≡ plannedSays q)
+  as-said q = ((λ e. sym (planned .answer) ∙ ap plannedSays e), (λ e. says-one-answer r q (planned .answer ∙ e)))
 
--- ---- 7 is given exactly when nothing earlier is and the plan buffer's length is not slots
+  -- 1 to 6 are given exactly when each is stated and nothing earlier applies
+  pub plan-refused-exactly : (why : Refusal) → (r ≡ Refused why) ↔ GivenFirst (states h) why
+  unfolding planFor sheetHas
+  plan-refused-exactly why =
+      Iff·trans (as-said (Refused why)) (handed-on-exactly h _ (own-else wrongPlan (not (eqb (length plan) (dayIn h .table .slots))) _ refl (own-given _)) why)
 
-not-equal : (m n : ℕ) → (not (eqb m n) ≡ true) ↔ (m ≡ n → ⊥)
-not-equal m n = ((λ e. eqb-false m n (not-true _ e)), (λ h. ap not (ne-eqb m n h)))
+  -- 7 is given exactly when nothing earlier is and the plan buffer's length is not slots
+  pub wrong-plan-exactly : (r ≡ WrongPlan) ↔ (Sound h × (length plan ≡ dayIn h .table .slots → ⊥))
+  unfolding planFor sheetHas
+  wrong-plan-exactly =
+      Iff·trans (as-said WrongPlan)
+      (Iff·trans (asked-exactly h _ (not (eqb (length plan) (dayIn h .table .slots))) (gives (verdictOf (dayIn h))) refl (λ e. subst Refuses (sym e) tt))
+      (with-place (differs (length plan) (dayIn h .table .slots))))
 
-pub wrong-table-plan-exactly : (t : Table) (harvest plan : List ℕ)
-    → (planTable t harvest plan ≡ refuses 7) ↔ (GoodTable t harvest × (length plan ≡ t .slots → ⊥))
-unfolding planTable tableSays
-wrong-table-plan-exactly t harvest plan =
-    Iff·trans (own-refusal-exactly (tableFaults t harvest) 7 (not (eqb (length plan) (t .slots))) (verdictOf t harvest) (lit< tt))
-    (Iff·and (table-accepted-exactly t harvest) (not-equal (length plan) (t .slots)))
+  -- After a refusal every byte of the plan buffer is what it was,
+  left-as-it-was : Refuses (plannedSays r) → after ≡ plan
+  unfolding planLeft
+  left-as-it-was refused =
+      planned .buffer
+      ∙ where-refused (planFor h plan) (bufferBy (verdictOf (dayIn h)) (planOf (dayIn h)) plan) plan (subst Refuses (planned .answer) refused)
 
-pub wrong-sheet-plan-exactly : (s plan : List ℕ) → (planSheet s plan ≡ refuses 7) ↔ (WellFormed s × (length plan ≡ slotsIn s → ⊥))
-unfolding planSheet sheetSays
-wrong-sheet-plan-exactly s plan =
-    Iff·trans (own-refusal-exactly (sheetFaults s) 7 (not (eqb (length plan) (slotsIn s))) (verdictOf (tableIn s) (harvestIn s)) (lit< tt))
-    (Iff·and (sheet-accepted-exactly s) (not-equal (length plan) (slotsIn s)))
+  pub refused-plan-leaves-the-buffer : (why : Refusal) → r ≡ Refused why → after ≡ plan
+  refused-plan-leaves-the-buffer why e = left-as-it-was (rw e (refusal-refuses Verdict why))
 
--- ---- 1 to 6 are given exactly when each is stated and nothing earlier applies
+  pub wrong-plan-leaves-the-buffer : r ≡ WrongPlan → after ≡ plan
+  wrong-plan-leaves-the-buffer e = left-as-it-was (rw e tt)
 
-pub table-plan-refused-exactly : (t : Table) (harvest plan : List ℕ) (r : Refusal) → (planTable t harvest plan ≡ refusalSays r) ↔ GivenFirst (tableStates t harvest) r
-unfolding planTable
-table-plan-refused-exactly t harvest plan r =
-    call-on-table-refused-exactly t harvest _ r (own-no-refusal 7 (not (eqb (length plan) (t .slots))) (verdictOf t harvest) (lit< tt))
+-- ---- the two ways in, each under its own name
 
-pub sheet-plan-refused-exactly : (s plan : List ℕ) (r : Refusal) → (planSheet s plan ≡ refusalSays r) ↔ GivenFirst (sheetStates s) r
-unfolding planSheet
-sheet-plan-refused-exactly s plan r =
-    call-on-sheet-refused-exactly s _ r (own-no-refusal 7 (not (eqb (length plan) (slotsIn s))) (verdictOf (tableIn s) (harvestIn s)) (lit< tt))
+module _ (s plan : List ℕ) where
+  pub sheet-plan-refused-exactly : (r : Planned) (after : List ℕ) → Plans (onSheet s) plan r after → (why : Refusal) → (r ≡ Refused why) ↔ GivenFirst (sheetStates s) why
+  sheet-plan-refused-exactly = plan-refused-exactly (onSheet s) plan
+
+  pub wrong-sheet-plan-exactly : (r : Planned) (after : List ℕ) → Plans (onSheet s) plan r after → (r ≡ WrongPlan) ↔ (WellFormed s × (length plan ≡ slotsIn s → ⊥))
+  unfolding tableIn
+  wrong-sheet-plan-exactly = wrong-plan-exactly (onSheet s) plan
+
+  pub one-sheet-plan : {after after′ : List ℕ} {r q : Planned} → Plans (onSheet s) plan r after → Plans (onSheet s) plan q after′ → (r ≡ q) × (after ≡ after′)
+  one-sheet-plan = one-plan
+
+module _ (t : Table) (harvest plan : List ℕ) where
+  pub table-plan-refused-exactly : (r : Planned) (after : List ℕ) → Plans (onTable t harvest) plan r after → (why : Refusal)
+      → (r ≡ Refused why) ↔ GivenFirst (tableStates (dayOf t harvest)) why
+  table-plan-refused-exactly = plan-refused-exactly (onTable t harvest) plan
+
+  pub wrong-table-plan-exactly : (r : Planned) (after : List ℕ) → Plans (onTable t harvest) plan r after
+      → (r ≡ WrongPlan) ↔ (GoodDay (dayOf t harvest) × (length plan ≡ t .slots → ⊥))
+  wrong-table-plan-exactly = wrong-plan-exactly (onTable t harvest) plan
+
+  pub one-table-plan : {after after′ : List ℕ} {r q : Planned} → Plans (onTable t harvest) plan r after → Plans (onTable t harvest) plan q after′
+      → (r ≡ q) × (after ≡ after′)
+  one-table-plan = one-plan

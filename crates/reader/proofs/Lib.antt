@@ -1,3 +1,4 @@
 pub mod Harvesting
 pub mod Records
 pub mod Theorems
+pub mod Yielding

@@ -9,9 +9,9 @@ use lib.ListN.{length, set}
 use borrow.Author.Tests.{lt-ltb, le-ltb}
 use Rattle.sheet.specs.Lists.{filled}
 use Rattle.sheet.specs.Paper.{Check, gives, refuses, refusesAt, _else_, inOrder, whereGiven}
-use Rattle.sheet.specs.Refusals.{refusalSays, outcomeSays}
-use Rattle.sheet.specs.Table.{mostJobs, noJob, countsFault, recordSays}
-use Rattle.sheet.specs.Sheet.{trailerLength, jobsIn, slotsIn, capacityIn, jobIn, lastByteIn, markFault, layoutFault, sheetSays, tableIn, tableRead, noTable}
+use Rattle.sheet.specs.Refusals.{refusalSays, outcomeSays, recordSays}
+use Rattle.sheet.specs.Table.{mostJobs, noJob, countsFault, windowFault, workFault}
+use Rattle.sheet.specs.Sheet.{trailerLength, jobsIn, slotsIn, capacityIn, jobIn, lastByteIn, markFault, layoutFault, sheetSays, tableIn}
 use Rattle.sheet.specs.declared.Job.{Job}
 use Rattle.sheet.specs.declared.Table.{Table}
 use Rattle.sheet.specs.declared.Refusal.{Refusal}
@@ -19,12 +19,13 @@ use Rattle.sheet.specs.declared.Refusal.the-variants.{Short, Mark, Counts, Layo
 use Rattle.sheet.specs.declared.Outcome.{Outcome}
 use Rattle.sheet.specs.declared.Outcome.the-variants.{Accepted, Refused}
 use Rattle.sheet.proofs.Lists.{filled-none, filled-more}
-use Rattle.sheet.proofs.Order.{gives-or-refuses, else-goes-on, in-order-none, in-order-clear, in-order-first, says-gives, says-refuses, refusal-stays}
-use Rattle.sheet.proofs.Reading.{records-decide, where-refused, table-refused}
+use Rattle.sheet.proofs.Order.{gives-or-refuses, else-goes-on, in-order-none, in-order-clear, in-order-first, where-refused}
+use Rattle.sheet.proofs.Refusals.{says-gives, says-refuses, refusal-stays}
 use Rattle.sheet.proofs.Words.{counts-words, layout-words}
 use Rattle.reader.specs.declared.Trailer.{Trailer}
-use Rattle.reader.specs.Promise.{Reads}
+use Rattle.reader.specs.Promise.{noTable, tableRead, Reads}
 use Rattle.reader.specs.Steps.{recordIn, ReadsTrailer}
+use Rattle.reader.proofs.Yielding.{records-decide, table-refused}
 
 -- ---- the trailer
 
@@ -103,9 +104,9 @@ pub record ReadTo (s : List ℕ) (slots k : ℕ) (places : List Job) : Type 0 wh
 pub read-none : (s : List ℕ) (slots : ℕ) (u : Table) → u ≡ noTable → ReadTo s slots 0 (u .jobs)
 read-none s slots u is = record { clear = in-order-none _; stand = ap (λ (v : Table). v .jobs) is ∙ sym (filled-none (jobIn s) noJob mostJobs) }
 
-module _ (s : List ℕ) (slots k : ℕ) (job : Job) (j : job ≡ jobIn s k) (o : Outcome) (said : outcomeSays o ≡ recordSays slots job (lastByteIn s k) k) where
+module _ (s : List ℕ) (slots k : ℕ) (job : Job) (j : job ≡ jobIn s k) (o : Outcome) (said : outcomeSays o ≡ recordSays (windowFault slots job) (workFault job (lastByteIn s k)) k) where
   record-said : outcomeSays o ≡ recordIn s slots k
-  record-said = said ∙ ap (λ (i : Job). recordSays slots i (lastByteIn s k) k) j
+  record-said = said ∙ ap (λ (i : Job). recordSays (windowFault slots i) (workFault i (lastByteIn s k)) k) j
 
   pub read-more : (places : List Job) → ReadTo s slots k places → o ≡ Accepted → k < mostJobs → ReadTo s slots (k + 1) (set places k job)
   read-more places to told h =
@@ -125,7 +126,7 @@ module _ (s : List ℕ) (t : Trailer) (trailer : ReadsTrailer s t) (k : ℕ) (pl
       (gives-or-refuses says)
 
   -- record k refuses
-  pub record-refuses : k < t .count → (job : Job) → job ≡ jobIn s k → (o : Outcome) → outcomeSays o ≡ recordSays (t .slots) job (lastByteIn s k) k
+  pub record-refuses : k < t .count → (job : Job) → job ≡ jobIn s k → (o : Outcome) → outcomeSays o ≡ recordSays (windowFault (t .slots) job) (workFault job (lastByteIn s k)) k
       → (why : Refusal) → o ≡ Refused why → (u : Table) → u ≡ noTable → Reads s (record { outcome = o; table = u })
   record-refuses h job j o said why told u is =
       let e = record-said s (t .slots) k job j o said in

@@ -5,14 +5,15 @@ use mathlib.Core.List.{List}
 use lib.ListN.{length}
 use Rattle.sheet.specs.Lists.{filled}
 use Rattle.sheet.specs.Paper.{Check, _else_, inOrder, whereGiven}
-use Rattle.sheet.specs.Refusals.{outcomeSays}
-use Rattle.sheet.specs.Table.{mostJobs, noJob, recordSays}
-use Rattle.sheet.specs.Sheet.{recordLength, jobIn, lastByteIn, sheetSays, tableIn, noTable}
+use Rattle.sheet.specs.Refusals.{outcomeSays, recordSays}
+use Rattle.sheet.specs.Table.{mostJobs, noJob, windowFault, workFault}
+use Rattle.sheet.specs.Sheet.{recordLength, jobIn, lastByteIn, sheetSays, tableIn}
+use Rattle.reader.specs.Promise.{noTable}
 use Rattle.reader.specs.declared.Trailer.{Trailer}
 
 -- record k, on a day of so many slots
 abbrev pub recordIn : List ℕ → ℕ → ℕ → Check
-recordIn s slots k = recordSays slots (jobIn s k) (lastByteIn s k) k
+recordIn s slots k = recordSays (windowFault slots (jobIn s k)) (workFault (jobIn s k) (lastByteIn s k)) k
 
 -- where the trailer is not refused the records decide, and where it is there are none; the bytes hold so many records
 pub record ReadsTrailer (s : List ℕ) (t : Trailer) : Type 0 where

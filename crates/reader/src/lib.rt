@@ -8,9 +8,9 @@ ghost use mathlib.Core.Path.{_≡_};
 ghost use Prim.Native.Nat.{_+_, _*_, _-_, _≤_, _<_};
 ghost use lib.ListN.{length, replicate};
 ghost use Rattle.sheet.specs.Table.{mostJobs};
-ghost use Rattle.sheet.specs.Sheet.{u16At, jobIn, jobsIn, slotsIn, markFault, layoutFault, recordLength, trailerLength, noTable, harvestRead};
+ghost use Rattle.sheet.specs.Sheet.{u16At, jobIn, jobsIn, slotsIn, markFault, layoutFault, recordLength, trailerLength};
 ghost use Rattle.reader.specs.Steps.{ReadsTrailer};
-ghost use Rattle.reader.specs.Promise.{Reads, harvestBehind};
+ghost use Rattle.reader.specs.Promise.{noTable, harvestRead, Reads, harvestBehind};
 
 // What reading a sheet yields. Of a refused sheet the table has no jobs, slots 0 and capacity 0.
 pub struct Reading {

@@ -8,14 +8,12 @@ use native.Mathlib.Decide.{decLt}
 use native.Mathlib.Omega.{arith}
 use lib.Dec.{eqb}
 use borrow.Author.Tests.{eq-eqb, ne-eqb}
-use Rattle.sheet.specs.Paper.{Paper, Check, gives, refuses, refusesAt, _given-when_, _else_, givenAt, inOrder}
-use Rattle.sheet.specs.Refusals.{Faults, inTurn, refusalSays, outcomeSays}
+use Rattle.sheet.specs.Paper.{Check, gives, inOrder}
+use Rattle.sheet.specs.Refusals.{Faults, recordSays, inTurn, refusalSays}
 use Rattle.sheet.specs.WellFormed.{turnOf, GivenFirst}
 use Rattle.sheet.specs.declared.Refusal.{Refusal}
 use Rattle.sheet.specs.declared.Refusal.the-variants.{Short, Mark, Counts, Layout, Window, Work}
-use Rattle.sheet.specs.declared.Outcome.{Outcome}
-use Rattle.sheet.specs.declared.Outcome.the-variants.{Accepted, Refused}
-use Rattle.sheet.proofs.Order.{says-refuses, else-goes-on, refusal-stays, asCheck, as-refusal}
+use Rattle.sheet.proofs.Refusals.{refusal-one, own-given}
 
 pub either : (b : Bool) → (b ≡ true) ⊎ (b ≡ false)
 either true = inl refl
@@ -37,14 +35,14 @@ applies f (Work k) = (k < f .records) × (f .work k ≡ true)
 
 module _ (window work : ℕ → Bool) where
   abbrev recordIs : ℕ → Check
-  recordIs k = givenAt 5 k (window k) else givenAt 6 k (work k)
+  recordIs k = recordSays (window k) (work k) k
 
   abbrev Clean : ℕ → Type 0
   Clean n = (k : ℕ) → k < n → (window k ≡ false) × (work k ≡ false)
 
   abbrev FirstBad : ℕ → ℕ → Type 0
   FirstBad n k =
-      ((window k ≡ true) × (inOrder recordIs n ≡ refusesAt 5 k)) ⊎ ((window k ≡ false) × (work k ≡ true) × (inOrder recordIs n ≡ refusesAt 6 k))
+      ((window k ≡ true) × (inOrder recordIs n ≡ refusalSays (Window k))) ⊎ ((window k ≡ false) × (work k ≡ true) × (inOrder recordIs n ≡ refusalSays (Work k)))
 
   clean-says : (n : ℕ) → Clean n → inOrder recordIs n ≡ gives tt
   unfolding inOrder
@@ -197,47 +195,7 @@ module _ (f : Faults) where
       (either (f .mark)))
       (either (f .short))
 
--- ---- a refusal is told by its number and place, and by its turn
-
-byNumber : ℕ → Refusal
-byNumber n = cond (eqb n 1) Short (cond (eqb n 2) Mark (cond (eqb n 3) Counts Layout))
-
-refusalOf : Check → Refusal
-refusalOf (gives x) = Short
-refusalOf (refuses n) = byNumber n
-refusalOf (refusesAt n k) = cond (eqb n 5) (Window k) (Work k)
-
-refusal-back : (r : Refusal) → refusalOf (refusalSays r) ≡ r
-unfolding refusalOf byNumber
-refusal-back Short = refl
-refusal-back Mark = refl
-refusal-back Counts = refl
-refusal-back Layout = refl
-refusal-back (Window k) = refl
-refusal-back (Work k) = refl
-
--- two refusals that the paper writes alike are one
-pub refusal-one : (r q : Refusal) → refusalSays {A = Unit {0}} r ≡ refusalSays q → r ≡ q
-refusal-one r q e = sym (refusal-back r) ∙ ap refusalOf e ∙ refusal-back q
-
-outcomeOf : Check → Outcome
-outcomeOf (gives x) = Accepted
-outcomeOf (refuses n) = Refused (refusalOf (refuses n))
-outcomeOf (refusesAt n k) = Refused (refusalOf (refusesAt n k))
-
-outcome-back : (o : Outcome) → outcomeOf (outcomeSays o) ≡ o
-unfolding outcomeOf refusalOf byNumber
-outcome-back Accepted = refl
-outcome-back (Refused Short) = refl
-outcome-back (Refused Mark) = refl
-outcome-back (Refused Counts) = refl
-outcome-back (Refused Layout) = refl
-outcome-back (Refused (Window k)) = refl
-outcome-back (Refused (Work k)) = refl
-
--- two outcomes that the paper writes alike are one
-pub outcome-one : (o p : Outcome) → outcomeSays o ≡ outcomeSays p → o ≡ p
-outcome-one o p e = sym (outcome-back o) ∙ ap outcomeOf e ∙ outcome-back p
+-- ---- a refusal is told by its turn
 
 atTurn : ℕ → Refusal
 atTurn n =
@@ -297,16 +255,13 @@ clear-none f c Layout p = never-both p (c .3)
 clear-none f c (Window k) p = never-both (p .1) (c .4 k (p .0) .0)
 clear-none f c (Work k) p = never-both (p .1) (c .4 k (p .0) .1)
 
-refusal-not-given : (r : Refusal) → refusalSays {A = Unit {0}} r ≡ gives tt → ⊥
-refusal-not-given r e = says-refuses (Refused r) r (gives tt) refl e
-
 -- the answer is this refusal exactly when it applies and no earlier one does
 pub refused-exactly : (f : Faults) (r : Refusal) → (inTurn f ≡ refusalSays r) ↔ GivenFirst (applies f) r
 refused-exactly f r = (
   (λ e.
       ⊎-elim
-      (λ c. absurd (refusal-not-given r (sym e ∙ c .0)))
-      (λ c. subst (GivenFirst (applies f)) (refusal-one (c .0) r (sym (c .1) ∙ e)) (c .2))
+      (λ c. absurd (own-given tt r (sym (c .0) ∙ e)))
+      (λ c. subst (GivenFirst (applies f)) (refusal-one _ (c .0) r (sym (c .1) ∙ e)) (c .2))
       (decided f)),
   (λ g.
       ⊎-elim
@@ -321,7 +276,7 @@ accepted-exactly f = (
   (λ e.
       ⊎-elim
       (λ c. c .1)
-      (λ c. absurd (refusal-not-given (c .0) (sym (c .1) ∙ e)))
+      (λ c. absurd (own-given tt (c .0) (sym e ∙ c .1)))
       (decided f)),
   (λ clear.
       ⊎-elim
@@ -333,55 +288,3 @@ accepted-exactly f = (
 -- leave to go on, or one of the refusals
 pub leave-or-refusal : (f : Faults) → (inTurn f ≡ gives tt) ⊎ ((r : Refusal) × (inTurn f ≡ refusalSays r))
 leave-or-refusal f = ⊎-elim (λ c. inl (c .0)) (λ c. inr (c .0, c .1)) (decided f)
-
--- a refusal of a sheet or a table is none of a call's own, which have numbers above 6
-pub refusal-number : {A : Type 0} (r : Refusal) (n : ℕ) → 6 < n → refusalSays {A = A} r ≡ refuses n → ⊥
-refusal-number {A} r n h e = go r e
-  where
-    go : (q : Refusal) → refusalSays {A = A} q ≡ refuses n → ⊥
-    go Short p = let k : 1 ≡ n = cc in omega arith
-    go Mark p = let k : 2 ≡ n = cc in omega arith
-    go Counts p = let k : 3 ≡ n = cc in omega arith
-    go Layout p = let k : 4 ≡ n = cc in omega arith
-    go (Window k) p = let z : _≡_ {A = ℕ} 0 1 = cc in omega arith
-    go (Work k) p = let z : _≡_ {A = ℕ} 0 1 = cc in omega arith
-
--- a call's own refusal, asked after a check: given exactly when its test holds and the check refused nothing
-pub own-refusal-exactly : {A : Type 0} (f : Faults) (n : ℕ) (b : Bool) (x : A) → 6 < n
-    → ((inTurn f else n given-when b else gives x) ≡ refuses n) ↔ ((inTurn f ≡ gives tt) × (b ≡ true))
-own-refusal-exactly {A} f n b x h = (
-  (λ e.
-      ⊎-elim
-      (λ leave. (leave, given b (sym (else-goes-on (inTurn f) (n given-when b else gives x) leave) ∙ e)))
-      (λ r. absurd (refusal-number (r .0) n h (sym (refusal-stays (r .0) (n given-when b else gives x)) ∙ ap (λ (a : Check). a else n given-when b else gives x) (sym (r .1)) ∙ e)))
-      (leave-or-refusal f)),
-  (λ g. else-goes-on (inTurn f) (n given-when b else gives x) (g .0) ∙ ap (λ (c : Bool). n given-when c else gives x) (g .1)),
-)
-  where
-    given : (c : Bool) → (n given-when c else gives x) ≡ refuses n → c ≡ true
-    given true p = refl
-    given false p = let z : _≡_ {A = ℕ} 0 1 = cc in absurd (omega arith)
-
--- a check's refusal is a call's answer exactly when it is the check's, whatever the call asks or gives after it
-pub check-refusal-exactly : {A : Type 0} (f : Faults) (b : Paper A) (r : Refusal) → ((q : Refusal) → b ≡ refusalSays q → ⊥)
-    → ((inTurn f else b) ≡ refusalSays r) ↔ (inTurn f ≡ refusalSays r)
-check-refusal-exactly {A} f b r never = (
-  (λ e.
-      ⊎-elim
-      (λ leave. absurd (never r (sym (else-goes-on (inTurn f) b leave) ∙ e)))
-      (λ q. q .1 ∙ ap refusalSays (refusal-same (q .0) r (sym (refusal-stays (q .0) b) ∙ ap (λ (a : Check). a else b) (sym (q .1)) ∙ e)))
-      (leave-or-refusal f)),
-  (λ e. ap (λ (a : Check). a else b) e ∙ refusal-stays r b),
-)
-  where
-    refusal-same : (q p : Refusal) → refusalSays {A = A} q ≡ refusalSays p → q ≡ p
-    refusal-same q p e = refusal-one q p (sym (as-refusal A q) ∙ ap asCheck e ∙ as-refusal A p)
-
--- what is given is no refusal of a sheet or a table, and neither is a call's own
-pub given-no-refusal : {A : Type 0} (x : A) (q : Refusal) → gives x ≡ refusalSays q → ⊥
-unfolding asCheck
-given-no-refusal {A} x q e = refusal-not-given q (sym (as-refusal A q) ∙ sym (ap asCheck e))
-
-pub own-no-refusal : {A : Type 0} (n : ℕ) (b : Bool) (x : A) → 6 < n → (q : Refusal) → (n given-when b else gives x) ≡ refusalSays q → ⊥
-own-no-refusal n true x h q e = refusal-number q n h (sym e)
-own-no-refusal n false x h q e = given-no-refusal x q e

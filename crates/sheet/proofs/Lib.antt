@@ -1,10 +1,11 @@
+pub mod HarvestBytes
 pub mod Exactly
-pub mod InColumns
+pub mod HandedIn
 pub mod Lists
 pub mod Order
 pub mod Parts
-pub mod Reading
-pub mod RoundTrips
+pub mod Refusals
+pub mod Stated
 pub mod Sums
 pub mod Tests
 pub mod Theorems

@@ -64,6 +64,12 @@ unfolding filled
 filled-get f z places n k h =
     List·getD-append (joined (λ i. f i ∷ []) n) (replicate (places - n) z) z k (subst (λ (m : ℕ). k < m) (sym (listed-length f n)) h) ∙ listed-get f z n k h
 
+-- a list of zeros
+pub zeros-first : (n k : ℕ) → _≡_ {A = ℕ} (getD (replicate n 0) k 0) 0
+zeros-first zero k = refl
+zeros-first (suc n) zero = refl
+zeros-first (suc n) (suc k) = zeros-first n k
+
 -- the same numbers fill the same places
 pub joined-same : {X : Type 0} (f g : ℕ → List X) (n : ℕ) → ((k : ℕ) → k < n → f k ≡ g k) → joined f n ≡ joined g n
 unfolding joined

@@ -1,4 +1,4 @@
--- Laws of the first refusal among places in order: at 0, at one place more, and at the place that refuses.
+-- Laws of answers: of one check before another, and of the first refusal among places in order, at 0, at one place more, and at the place that refuses.
 use Prim.Native.Nat.{ℕ, zero, suc, _+_, _<_}
 use mathlib.Core.Path.{_≡_, refl, sym, ap, ap₂, _∙_, subst}
 use mathlib.Core.Logic.{_⊎_, inl, inr}
@@ -6,15 +6,11 @@ use native.Mathlib.Nat.{not-suc-le-zero}
 use native.Mathlib.Numerals.{add-one}
 use native.Mathlib.Decide.{decLt}
 use native.Mathlib.Omega.{arith}
-use Rattle.sheet.specs.Refusals.{refusalSays, outcomeSays}
-use Rattle.sheet.specs.declared.Refusal.{Refusal}
-use Rattle.sheet.specs.declared.Refusal.the-variants.{Short, Mark, Counts, Layout, Window, Work}
-use Rattle.sheet.specs.declared.Outcome.{Outcome}
-use Rattle.sheet.specs.declared.Outcome.the-variants.{Accepted, Refused}
-use Rattle.sheet.specs.Paper.{Paper, Check, gives, refuses, refusesAt, _else_, whereGiven, inOrder}
+use mathlib.Core.Bool.{Bool, true, false}
+use Rattle.sheet.specs.Paper.{Paper, Check, gives, refuses, refusesAt, _when_, _else_, whereGiven, inOrder}
 
 -- an answer that refuses
-abbrev pub Refuses : Check → Type 0
+abbrev pub Refuses : {A : Type 0} → Paper A → Type 0
 Refuses (gives x) = ⊥
 Refuses (refuses n) = Unit {0}
 Refuses (refusesAt n place) = Unit {0}
@@ -31,6 +27,26 @@ else-stays (refusesAt n place) b r = refl
 
 pub else-goes-on : {A : Type 0} (a : Check) (b : Paper A) → a ≡ gives tt → a else b ≡ b
 else-goes-on a b e = ap (λ (x : Check). x else b) e
+
+-- where the whole gives something, the check gave leave, and the rest gave it
+pub else-gave : {A : Type 0} (a : Check) (b : Paper A) (z : A) → (a else b) ≡ gives z → (a ≡ gives tt) × (b ≡ gives z)
+else-gave (gives x) b z e = (refl, e)
+else-gave (refuses n) b z e = absurd (subst Refuses e tt)
+else-gave (refusesAt n place) b z e = absurd (subst Refuses e tt)
+
+-- a test that gives leave failed
+pub when-gave : (refusal : Check) (b : Bool) → Refuses refusal → (refusal when b) ≡ gives tt → b ≡ false
+when-gave refusal true r e = absurd (subst Refuses e r)
+when-gave refusal false r e = refl
+
+-- where nothing is given
+pub where-given : {A X : Type 0} (a : Paper A) (z : A) (x y : X) → a ≡ gives z → whereGiven a x y ≡ x
+where-given {A} {X} a z x y e = ap (λ (b : Paper A). whereGiven b x y) e
+
+pub where-refused : {A X : Type 0} (a : Paper A) (x y : X) → Refuses a → whereGiven a x y ≡ y
+where-refused (gives u) x y r = absurd r
+where-refused (refuses n) x y r = refl
+where-refused (refusesAt n place) x y r = refl
 
 pub in-order-none : (f : ℕ → Check) → inOrder f 0 ≡ gives tt
 unfolding inOrder
@@ -89,73 +105,3 @@ in-order-decided f (suc n) = go (in-order-decided f n)
     go : OneRefuses f n → OneRefuses f (suc n)
     go (inl c) = last (c .0) (c .1) (gives-or-refuses (f n))
     go (inr w) = let l = w .1 in inr (w .0, omega arith, w .2, w .3, ap (λ (x : Check). x else f n) (w .4) ∙ else-stays (f (w .0)) (f n) (w .3))
-
-refusal-refuses : (r : Refusal) → Refuses (refusalSays r)
-refusal-refuses Short = tt
-refusal-refuses Mark = tt
-refusal-refuses Counts = tt
-refusal-refuses Layout = tt
-refusal-refuses (Window k) = tt
-refusal-refuses (Work k) = tt
-
--- what an outcome that is a refusal says, refuses
-pub says-refuses : (o : Outcome) (r : Refusal) (x : Check) → o ≡ Refused r → outcomeSays o ≡ x → Refuses x
-says-refuses o r x e h = subst Refuses (sym (ap outcomeSays e) ∙ h) (refusal-refuses r)
-
--- and of one that is accepted, accepts
-pub says-gives : (o : Outcome) (x : Check) → o ≡ Accepted → outcomeSays o ≡ x → x ≡ gives tt
-says-gives o x e h = sym h ∙ ap outcomeSays e
-
--- a refusal is the answer whatever follows
-pub refusal-stays : {A : Type 0} (r : Refusal) (b : Paper A) → refusalSays r else b ≡ refusalSays r
-refusal-stays Short b = refl
-refusal-stays Mark b = refl
-refusal-stays Counts b = refl
-refusal-stays Layout b = refl
-refusal-stays (Window k) b = refl
-refusal-stays (Work k) b = refl
-
--- and nothing is given
-pub refusal-gives-nothing : (A : Type 0) {X : Type 0} (r : Refusal) (x y : X) → whereGiven (refusalSays {A = A} r) x y ≡ y
-refusal-gives-nothing A Short x y = refl
-refusal-gives-nothing A Mark x y = refl
-refusal-gives-nothing A Counts x y = refl
-refusal-gives-nothing A Layout x y = refl
-refusal-gives-nothing A (Window k) x y = refl
-refusal-gives-nothing A (Work k) x y = refl
-
--- ---- a check, and what is given after it
-
-unfoldable pub asCheck : {A : Type 0} → Paper A → Check
-asCheck (gives x) = gives tt
-asCheck (refuses n) = refuses n
-asCheck (refusesAt n place) = refusesAt n place
-
-as-check : {A : Type 0} (a : Check) (y : A) → asCheck (a else gives y) ≡ a
-unfolding asCheck
-as-check (gives x) y = refl
-as-check (refuses n) y = refl
-as-check (refusesAt n place) y = refl
-
-pub as-refusal : (A : Type 0) (r : Refusal) → asCheck (refusalSays {A = A} r) ≡ refusalSays r
-unfolding asCheck
-as-refusal A Short = refl
-as-refusal A Mark = refl
-as-refusal A Counts = refl
-as-refusal A Layout = refl
-as-refusal A (Window k) = refl
-as-refusal A (Work k) = refl
-
--- where the whole refuses, the check did
-pub else-refused : {A : Type 0} (a : Check) (y : A) (r : Refusal) → (a else gives y) ≡ refusalSays r → a ≡ refusalSays r
-else-refused {A} a y r e = sym (as-check a y) ∙ ap asCheck e ∙ as-refusal A r
-
--- where the whole gives something, the check gave leave
-pub else-gave : {A : Type 0} (a : Check) (y z : A) → (a else gives y) ≡ gives z → (a ≡ gives tt) × (y ≡ z)
-unfolding asCheck
-else-gave {A} a y z e =
-    let leave : a ≡ gives tt = sym (as-check a y) ∙ ap asCheck e in
-    (leave, given-same y z (sym (else-goes-on a (gives y) leave) ∙ e))
-  where
-    given-same : (x w : A) → gives x ≡ gives w → x ≡ w
-    given-same x w p = cc

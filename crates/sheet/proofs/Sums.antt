@@ -2,16 +2,13 @@
 use Prim.Native.Nat.{ℕ, zero, suc, _+_, _-_, _*_, _<_, _≤_}
 use mathlib.Core.Path.{_≡_, refl, sym, ap, ap₂, _∙_, subst}
 use mathlib.Core.Bool.{Bool, true, false, _||_}
-use mathlib.Core.List.{List, _∷_}
+use mathlib.Core.List.{List}
 use mathlib.Core.Logic.{_⊎_, ⊎-elim}
 use native.Mathlib.Nat.{not-suc-le-zero, mul-suc, add-assoc}
 use native.Mathlib.Numerals.{add-one}
-use native.Mathlib.Decide.{decLt, decLe, ℕ-discrete}
+use native.Mathlib.Decide.{decLt}
 use native.Mathlib.Omega.{arith}
-use lib.ListN.{length, getD, set, replicate}
-use lib.Seq.{getD-set-same, getD-set-other}
-use Rattle.sheet.specs.Table.{mostSlots}
-use Rattle.sheet.specs.Sums.{total, some, harvestAt, harvestOf, TotalsOf}
+use Rattle.sheet.specs.Sums.{total, some, harvestAt, harvestOf}
 use Rattle.sheet.proofs.Exactly.{either, never-both}
 
 -- ---- total
@@ -119,17 +116,12 @@ some-clear test n p q = some-more test n ∙ ap₂ _||_ p q
 
 -- ---- harvest
 
--- read off two running totals
+-- the first slots, and the stretch behind them
 pub harvest-split : (harvest : List ℕ) (from to : ℕ) → from ≤ to → total (harvestAt harvest) to ≡ total (harvestAt harvest) from + harvestOf harvest from to
 unfolding harvestOf
 harvest-split harvest from to h =
     let e : to ≡ from + (to - from) = omega arith in
     ap (total (harvestAt harvest)) e ∙ total-split (harvestAt harvest) from (to - from)
-
-pub harvest-by-totals : (harvest totals : List ℕ) → TotalsOf harvest totals → (from to : ℕ) → from ≤ to → to ≤ length harvest → to ≤ mostSlots
-    → getD totals to 0 ≡ getD totals from 0 + harvestOf harvest from to
-harvest-by-totals harvest totals is from to h l m =
-    is to l m ∙ harvest-split harvest from to h ∙ ap (λ (x : ℕ). x + harvestOf harvest from to) (sym (is from (omega arith) (omega arith)))
 
 -- one slot more at the front
 pub harvest-from : (harvest : List ℕ) (from to : ℕ) → from < to → harvestOf harvest from to ≡ harvestAt harvest from + harvestOf harvest (from + 1) to
@@ -158,39 +150,3 @@ harvest-grows harvest from to from′ to′ p q r =
     let c = harvest-split harvest from′ from p in
     let d = harvest-split harvest to to′ r in
     omega arith
-
-pub entries-first : (g : ℕ → ℕ) (x : ℕ) (l : List ℕ) → x ≡ g 0 → (j : ℕ) → j ≤ 0 → getD (x ∷ l) j 0 ≡ g j
-entries-first g x l e j h = let first : 0 ≡ j = omega arith in subst (λ (i : ℕ). getD (x ∷ l) i 0 ≡ g i) first e
-
--- entries that are right up to k stay right when the next one is stored
-pub entries-more : (g : ℕ → ℕ) (l : List ℕ) (k v : ℕ) → ((j : ℕ) → j ≤ k → getD l j 0 ≡ g j) → v ≡ g (k + 1) → k + 1 < length l
-    → (j : ℕ) → j ≤ k + 1 → getD (set l (k + 1) v) j 0 ≡ g j
-entries-more g l k v right e long j h =
-    elim (decLe j k) [
-      | yes i ↦ getD-set-other l (k + 1) j v 0 (λ q. omega arith) ∙ right j i
-      | no i ↦
-          let last : k + 1 ≡ j = omega arith in
-          subst (λ (m : ℕ). getD (set l (k + 1) v) m 0 ≡ g m) last (getD-set-same l (k + 1) v 0 long ∙ e)
-    ]
-
--- entries that stay within a bound
-pub small-none : (n most : ℕ) (k : ℕ) → getD (replicate n 0) k 0 ≤ most
-small-none zero most k = omega arith
-small-none (suc n) most zero = omega arith
-small-none (suc n) most (suc k) = small-none n most k
-
-pub small-more : (l : List ℕ) (i v most : ℕ) → ((k : ℕ) → getD l k 0 ≤ most) → v ≤ most → i < length l → (k : ℕ) → getD (set l i v) k 0 ≤ most
-small-more l i v most small h long k =
-    elim (ℕ-discrete k i) [
-      | yes e ↦ subst (λ (j : ℕ). getD (set l i v) j 0 ≤ most) (sym e) (rw (getD-set-same l i v 0 long) h)
-      | no e ↦ rw (getD-set-other l i k v 0 e) (small k)
-    ]
-
--- places that hold zeros, and the next one stored
-pub zeros-first : (n k : ℕ) → _≡_ {A = ℕ} (getD (replicate n 0) k 0) 0
-zeros-first zero k = refl
-zeros-first (suc n) zero = refl
-zeros-first (suc n) (suc k) = zeros-first n k
-
-pub zeros-more : (l : List ℕ) (i v : ℕ) → ((k : ℕ) → i < k → getD l k 0 ≡ 0) → (k : ℕ) → i + 1 < k → getD (set l (i + 1) v) k 0 ≡ 0
-zeros-more l i v zeros k h = getD-set-other l (i + 1) k v 0 (λ e. omega arith) ∙ zeros k (omega arith)

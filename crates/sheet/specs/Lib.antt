@@ -1,4 +1,4 @@
-pub mod InColumns
+pub mod HandedIn
 pub mod Lists
 pub mod Paper
 pub mod Refusals

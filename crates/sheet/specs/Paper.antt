@@ -11,16 +11,11 @@ pub data Paper (A : Type 0) : Type 0 where
 abbrev pub Check : Type 0
 Check = Paper (Unit {0})
 
--- `n given-when b`: the check that refuses with n exactly when b holds
-infix 25 _given-when_
-abbrev pub _given-when_ : ℕ → Bool → Check
-n given-when true = refuses n
-n given-when false = gives tt
-
--- the same for a refusal that names a place
-abbrev pub givenAt : ℕ → ℕ → Bool → Check
-givenAt n place true = refusesAt n place
-givenAt n place false = gives tt
+-- `refusal when b`: the check that gives this refusal exactly when b holds
+infix 25 _when_
+abbrev pub _when_ : Check → Bool → Check
+refusal when true = refusal
+refusal when false = gives tt
 
 -- `a else b`: the refusal of a, where a refuses; otherwise b
 infixr 20 _else_
@@ -39,3 +34,14 @@ abbrev pub whereGiven {ℓ} : {A : Type 0} {X : Type ℓ} → Paper A → X → 
 whereGiven (gives given) x y = x
 whereGiven (refuses n) x y = y
 whereGiven (refusesAt n place) x y = y
+
+-- a refusal's number, and the place that it names; 0 where there is none
+abbrev pub numberOf : {A : Type 0} → Paper A → ℕ
+numberOf (gives x) = 0
+numberOf (refuses n) = n
+numberOf (refusesAt n place) = n
+
+abbrev pub placeOf : {A : Type 0} → Paper A → ℕ
+placeOf (gives x) = 0
+placeOf (refuses n) = 0
+placeOf (refusesAt n place) = place

@@ -3,11 +3,11 @@ use Prim.Native.Nat.{ℕ, _+_, _-_, _*_, _/_, _%_}
 use mathlib.Core.List.{List, [], _∷_, _++_}
 use mathlib.Core.Bool.{Bool, not, _&&_}
 use lib.Dec.{ltb, eqb}
-use lib.ListN.{length, getD, take, drop, replicate}
-use Rattle.sheet.specs.Paper.{Paper, Check, gives, _given-when_, _else_, whereGiven}
+use lib.ListN.{length, getD, take, drop}
+use Rattle.sheet.specs.Paper.{Check}
 use Rattle.sheet.specs.Lists.{joined, filled}
 use Rattle.sheet.specs.Refusals.{Faults, inTurn}
-use Rattle.sheet.specs.Table.{mostJobs, noJob, jobOf, countsFault, windowFault, workFault, tableSays}
+use Rattle.sheet.specs.Table.{mostJobs, noJob, jobOf, countsFault, windowFault, workFault}
 use Rattle.sheet.specs.declared.Job.{Job}
 use Rattle.sheet.specs.declared.Table.{Table}
 
@@ -127,35 +127,3 @@ sheetFaults s =
 unfoldable pub sheetSays : List ℕ → Check
 unfolding inTurn sheetFaults
 sheetSays s = inTurn (sheetFaults s)
-
--- ---- what the reader yields
-
--- no jobs, slots 0, capacity 0
-abbrev pub noTable : Table
-noTable = record { jobs = replicate mostJobs noJob; count = 0; slots = 0; capacity = 0 }
-
--- the table of an accepted sheet; of a refused one, no jobs, slots 0, capacity 0
-unfoldable pub tableRead : List ℕ → Table
-tableRead s = whereGiven (sheetSays s) (tableIn s) noTable
-
--- the harvest of an accepted sheet, that stretch of the sheet; of a refused one an empty stretch
-unfoldable pub harvestRead : List ℕ → List ℕ
-harvestRead s = whereGiven (sheetSays s) (harvestIn s) []
-
--- ---- what the writer leaves
-
--- 3, 4 and the records by the table's own check, then 8: the buffer is too short; otherwise the sheet's length
-unfoldable pub writeSays : Table → List ℕ → List ℕ → Paper ℕ
-unfolding tableSays
-writeSays t harvest out =
-    tableSays t harvest
-    else 8 given-when ltb (length out) (sheetLength (t .count) (t .slots))
-    else gives (sheetLength (t .count) (t .slots))
-
--- the sheet at the front and the bytes behind it as they were; after a refusal every byte as it was
-unfoldable pub bufferWritten : Table → List ℕ → List ℕ → List ℕ
-unfolding writeSays sheetBytes
-bufferWritten t harvest out =
-    whereGiven (writeSays t harvest out)
-    (sheetBytes t harvest ++ drop (sheetLength (t .count) (t .slots)) out)
-    out

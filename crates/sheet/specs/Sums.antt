@@ -1,10 +1,9 @@
 -- Sums over jobs and over slots.
-use Prim.Native.Nat.{ℕ, zero, suc, min, _+_, _-_, _*_, _≤_, _<_}
-use mathlib.Core.Path.{_≡_}
+use Prim.Native.Nat.{ℕ, zero, suc, _+_, _-_, _*_}
 use mathlib.Core.List.{List}
 use mathlib.Core.Bool.{Bool, false, cond, _||_}
-use lib.ListN.{length, getD}
-use Rattle.sheet.specs.Table.{mostSlots, countedAs}
+use lib.ListN.{getD}
+use Rattle.sheet.specs.Table.{mostSlots, countedAs, mostCounted}
 
 -- f 0 + f 1 + .. + f (n - 1)
 unfoldable pub total : (ℕ → ℕ) → ℕ → ℕ
@@ -27,17 +26,9 @@ harvestAt harvest i = countedAs (getD harvest i 0)
 unfoldable pub harvestOf : List ℕ → ℕ → ℕ → ℕ
 harvestOf harvest from to = total (λ i. harvestAt harvest (from + i)) (to - from)
 
--- running totals: entry k is the harvest of the first k slots
-abbrev pub TotalsOf : List ℕ → List ℕ → Type 0
-TotalsOf harvest totals = (k : ℕ) → k ≤ length harvest → k ≤ mostSlots → getD totals k 0 ≡ total (harvestAt harvest) k
-
--- the most that a day can harvest, and totals that stay within it
+-- the most that a day can harvest, and that a job can cost
 abbrev pub mostHarvest : ℕ
-mostHarvest = 255 * mostSlots
+mostHarvest = mostCounted * mostSlots
 
-abbrev pub SmallTotals : List ℕ → Type 0
-SmallTotals totals = (k : ℕ) → getD totals k 0 ≤ mostHarvest
-
--- zeros behind the last total
-abbrev pub ZerosBeyond : List ℕ → List ℕ → Type 0
-ZerosBeyond harvest totals = (k : ℕ) → min (length harvest) mostSlots < k → getD totals k 0 ≡ 0
+abbrev pub mostCost : ℕ
+mostCost = 65535 * 255

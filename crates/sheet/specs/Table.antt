@@ -1,10 +1,10 @@
--- A table and a harvest: what is well formed, and which refusals apply.
-use Prim.Native.Nat.{ℕ}
+-- A table and a harvest: the day, what is well formed in it, and which refusals apply.
+use Prim.Native.Nat.{ℕ, _*_}
 use mathlib.Core.List.{List}
 use mathlib.Core.Bool.{Bool, false, not, _||_}
 use lib.Dec.{ltb, eqb}
 use lib.ListN.{length, getD}
-use Rattle.sheet.specs.Paper.{Check, givenAt, _else_, inOrder}
+use Rattle.sheet.specs.Paper.{Check}
 use Rattle.sheet.specs.Refusals.{Faults, inTurn}
 use Rattle.sheet.specs.declared.Job.{Job}
 use Rattle.sheet.specs.declared.Table.{Table}
@@ -24,6 +24,10 @@ noJob = record { release = 0; deadline = 0; wanted = 0; energy = 0 }
 abbrev pub jobOf : Table → ℕ → Job
 jobOf t k = getD (t .jobs) k noJob
 
+-- what all the slots that a job wants cost: slots wanted × energy
+abbrev pub costOf : Job → ℕ
+costOf j = j .wanted * j .energy
+
 -- "The level starts at capacity"
 abbrev pub startLevel : Table → ℕ
 startLevel t = t .capacity
@@ -32,9 +36,20 @@ startLevel t = t .capacity
 abbrev pub idleByte : ℕ
 idleByte = 255
 
--- what a slot's harvest byte counts for
-abbrev pub countedAs : ℕ → ℕ
+-- what a slot's harvest byte counts for, and the most that it does; known elsewhere by the laws in `proofs/HarvestBytes.antt`
+unfoldable pub countedAs : ℕ → ℕ
 countedAs byte = byte
+
+abbrev pub mostCounted : ℕ
+mostCounted = 255
+
+-- a day: a table with its harvest
+pub record Day : Type 0 where
+  pub table : Table
+  pub harvest : List ℕ
+
+abbrev pub dayOf : Table → List ℕ → Day
+dayOf t harvest = record { table = t; harvest = harvest }
 
 -- 3: more than 64 jobs, or slots 0 or above 1,440
 unfoldable pub countsFault : ℕ → ℕ → Bool
@@ -48,31 +63,19 @@ windowFault slots j = not (ltb (j .release) (j .deadline)) || ltb slots (j .dead
 unfoldable pub workFault : Job → ℕ → Bool
 workFault j last = eqb (j .wanted) 0 || ltb mostSlots (j .wanted) || eqb (j .energy) 0 || not (eqb last 0)
 
--- record k, by itself: 5 before 6
-unfoldable pub recordSays : ℕ → Job → ℕ → ℕ → Check
-recordSays slots j last k = givenAt 5 k (windowFault slots j) else givenAt 6 k (workFault j last)
-
--- record k of a table, which has no last byte to check
-abbrev pub tableRecordSays : Table → ℕ → Check
-tableRecordSays t k = recordSays (t .slots) (jobOf t k) 0 k
-
--- the records of a table, in order
-unfoldable pub recordsSay : Table → Check
-recordsSay t = inOrder (tableRecordSays t) (t .count)
-
--- a table and a harvest handed in place of a sheet: 3, then 4 (harvest length is not slots), then records; a table has no last byte to check
-unfoldable pub tableFaults : Table → List ℕ → Faults
-tableFaults t harvest =
+-- a table and a harvest in place of a sheet: 3, then 4 (harvest length is not slots), then records; a table has no last byte to check
+unfoldable pub tableFaults : Day → Faults
+tableFaults d =
     record {
       short = false;
       mark = false;
-      counts = countsFault (t .count) (t .slots);
-      layout = not (eqb (length harvest) (t .slots));
-      records = t .count;
-      window = λ k. windowFault (t .slots) (jobOf t k);
-      work = λ k. workFault (jobOf t k) 0;
+      counts = countsFault (d .table .count) (d .table .slots);
+      layout = not (eqb (length (d .harvest)) (d .table .slots));
+      records = d .table .count;
+      window = λ k. windowFault (d .table .slots) (jobOf (d .table) k);
+      work = λ k. workFault (jobOf (d .table) k) 0;
     }
 
-unfoldable pub tableSays : Table → List ℕ → Check
+unfoldable pub tableSays : Day → Check
 unfolding inTurn tableFaults
-tableSays t harvest = inTurn (tableFaults t harvest)
+tableSays d = inTurn (tableFaults d)

@@ -5,7 +5,7 @@ use mathlib.Core.Path.{_≡_}
 use mathlib.Core.List.{List}
 use mathlib.Core.Logic.{_⊎_}
 use lib.ListN.{length, getD}
-use Rattle.sheet.specs.Table.{mostJobs, mostSlots, jobOf}
+use Rattle.sheet.specs.Table.{mostJobs, mostSlots, jobOf, Day, dayOf}
 use Rattle.sheet.specs.Sheet.{trailerLength, recordLength, sheetLength, markFirst, markSecond, harvestBack, firstJobBack, jobsIn, slotsIn, jobIn, lastByteIn, tableIn, harvestIn}
 use Rattle.sheet.specs.declared.Job.{Job}
 use Rattle.sheet.specs.declared.Table.{Table}
@@ -22,13 +22,13 @@ pub record GoodJob (slots : ℕ) (j : Job) : Type 0 where
   pub wants-at-most : j .wanted ≤ mostSlots
   pub costs : 1 ≤ j .energy
 
--- a table and its harvest
-pub record GoodTable (t : Table) (harvest : List ℕ) : Type 0 where
-  pub few-jobs : t .count ≤ mostJobs
-  pub some-slots : 1 ≤ t .slots
-  pub few-slots : t .slots ≤ mostSlots
-  pub harvest-fits : length harvest ≡ t .slots
-  pub good-jobs : (k : ℕ) → k < t .count → GoodJob (t .slots) (jobOf t k)
+-- a table with its harvest
+pub record GoodDay (d : Day) : Type 0 where
+  pub few-jobs : d .table .count ≤ mostJobs
+  pub some-slots : 1 ≤ d .table .slots
+  pub few-slots : d .table .slots ≤ mostSlots
+  pub harvest-fits : length (d .harvest) ≡ d .table .slots
+  pub good-jobs : (k : ℕ) → k < d .table .count → GoodJob (d .table .slots) (jobOf (d .table) k)
 
 -- the bytes of a sheet
 pub record WellFormed (s : List ℕ) : Type 0 where
@@ -38,7 +38,7 @@ pub record WellFormed (s : List ℕ) : Type 0 where
   pub first-job-back : firstJobBack s ≡ slotsIn s + recordLength * jobsIn s
   pub length-fits : length s ≡ sheetLength (jobsIn s) (slotsIn s)
   pub zero-bytes : (k : ℕ) → k < jobsIn s → lastByteIn s k ≡ 0
-  pub good-table : GoodTable (tableIn s) (harvestIn s)
+  pub good-day : GoodDay (dayOf (tableIn s) (harvestIn s))
 
 -- "A table is its jobs in order, its slots and its capacity; two are the same when these agree"
 pub record SameTable (t u : Table) : Type 0 where
@@ -76,13 +76,13 @@ sheetStates s (Window k) = (k < jobsIn s) × WindowStated (slotsIn s) (jobIn s k
 sheetStates s (Work k) = (k < jobsIn s) × WorkStated (jobIn s k) (lastByteIn s k)
 
 -- when each refusal of a table and a harvest is stated; 1 and 2 never are, and a table has no last byte
-abbrev pub tableStates : Table → List ℕ → Refusal → Type 0
-tableStates t harvest Short = ⊥
-tableStates t harvest Mark = ⊥
-tableStates t harvest Counts = CountsStated (t .count) (t .slots)
-tableStates t harvest Layout = length harvest ≡ t .slots → ⊥
-tableStates t harvest (Window k) = (k < t .count) × WindowStated (t .slots) (jobOf t k)
-tableStates t harvest (Work k) = (k < t .count) × WorkStated (jobOf t k) 0
+abbrev pub tableStates : Day → Refusal → Type 0
+tableStates d Short = ⊥
+tableStates d Mark = ⊥
+tableStates d Counts = CountsStated (d .table .count) (d .table .slots)
+tableStates d Layout = length (d .harvest) ≡ d .table .slots → ⊥
+tableStates d (Window k) = (k < d .table .count) × WindowStated (d .table .slots) (jobOf (d .table) k)
+tableStates d (Work k) = (k < d .table .count) × WorkStated (jobOf (d .table) k) 0
 
 -- "Order: 1, 2, 3, 4, then records in order with 5 before 6 in each": whose turn comes when
 abbrev pub turnOf : Refusal → ℕ

@@ -2,10 +2,10 @@
 // of a table and a harvest that are handed to it in place of a sheet.
 ghost use mathlib.Core.Path.{_≡_};
 ghost use Prim.Native.Nat.{min, _*_, _≤_};
-ghost use Rattle.sheet.specs.Sums.{TotalsOf, SmallTotals, ZerosBeyond};
-ghost use Rattle.sheet.specs.InColumns.{columnsOf, mostCost, SmallCosts};
-ghost use Rattle.sheet.specs.Refusals.{outcomeSays, refusalNumber};
-ghost use Rattle.sheet.specs.Table.{mostJobs, mostSlots, countedAs, countsFault, windowFault, workFault, recordSays, recordsSay, tableSays};
+ghost use Rattle.sheet.specs.Paper.{inOrder};
+ghost use Rattle.sheet.specs.Refusals.{refusalNumber, refusalPlace, outcomeSays, recordSays};
+ghost use Rattle.sheet.specs.Sums.{mostCost};
+ghost use Rattle.sheet.specs.Table.{mostJobs, jobOf, countedAs, mostCounted, dayOf, countsFault, windowFault, workFault, tableSays};
 
 // The limits of document 01.
 pub const MOST_JOBS: usize = 64;
@@ -23,9 +23,6 @@ pub const MARK_SECOND: u8 = 0x48;
 
 // The byte of a plan for an idle slot; any other byte is the number of the slot's job.
 pub const IDLE: u8 = 255;
-
-// Running totals have an entry for each number of slots, from none to the longest day's.
-pub const TOTALS: usize = MOST_SLOTS as usize + 1;
 
 // A job may run in the slots from its release up to, not including, its deadline. It wants that
 // many slots, and each slot that it is busy costs its energy.
@@ -69,7 +66,7 @@ pub enum Outcome {
 
 // What a slot's harvest byte counts for, wherever a slot's harvest is used.
 pub fn counted(byte: u8) -> u16
-    ensures { λ r. ⌜ (r ≡ countedAs byte) × (r ≤ 255) ⌝ }
+    ensures { λ r. ⌜ (r ≡ countedAs byte) × (r ≤ mostCounted) ⌝ }
 {
     byte as u16
 }
@@ -120,7 +117,7 @@ pub fn counts_fault(count: usize, slots: u16) -> bool
 }
 
 // 5 applies: the release is not below the deadline, or the deadline is above slots.
-pub fn window_fault(slots: u16, j: Job) -> bool
+fn window_fault(slots: u16, j: Job) -> bool
     ensures { λ r. ⌜ r ≡ windowFault slots j ⌝ }
 {
     if j.deadline <= j.release {
@@ -130,7 +127,7 @@ pub fn window_fault(slots: u16, j: Job) -> bool
 }
 
 // 6 applies: slots wanted 0 or above 1,440, energy 0, or a last byte that is not 0.
-pub fn work_fault(j: Job, last: u8) -> bool
+fn work_fault(j: Job, last: u8) -> bool
     ensures { λ r. ⌜ r ≡ workFault j last ⌝ }
 {
     if j.wanted == 0 {
@@ -147,7 +144,7 @@ pub fn work_fault(j: Job, last: u8) -> bool
 
 // Record k of a sheet or a table, by itself: 5 before 6. A table's record has no last byte: hand 0.
 pub fn check_record(slots: u16, j: Job, last: u8, k: usize) -> Outcome
-    ensures { λ r. ⌜ outcomeSays r ≡ recordSays slots j last k ⌝ }
+    ensures { λ r. ⌜ outcomeSays r ≡ recordSays (windowFault slots j) (workFault j last) k ⌝ }
 {
     if window_fault(slots, j) {
         return Outcome::Refused(Refusal::Window(k));
@@ -161,7 +158,7 @@ pub fn check_record(slots: u16, j: Job, last: u8, k: usize) -> Outcome
 // The records of a table of at most 64 jobs, in order. Only `check` calls it.
 fn check_records(t: Table) -> Outcome
     requires { ⌜ t .count ≤ mostJobs ⌝ }
-    ensures { λ r. ⌜ outcomeSays r ≡ recordsSay t ⌝ }
+    ensures { λ r. ⌜ outcomeSays r ≡ inOrder (λ k. recordSays (windowFault (t .slots) (jobOf t k)) (workFault (jobOf t k) 0) k) (t .count) ⌝ }
 {
     let count = t.count;
     let slots = t.slots;
@@ -181,7 +178,7 @@ fn check_records(t: Table) -> Outcome
 // harvest is not of slots bytes, then the records in order with 5 before 6 in each. It takes any
 // table and any harvest, and looks at no place of the table beyond its last job.
 pub fn check(t: Table, harvest: &[u8]) -> Outcome
-    ensures { λ r. ⌜ outcomeSays r ≡ tableSays t (now (harvest .entry)) ⌝ }
+    ensures { λ r. ⌜ outcomeSays r ≡ tableSays (dayOf t (now (harvest .entry))) ⌝ }
 {
     if counts_fault(t.count, t.slots) {
         return Outcome::Refused(Refusal::Counts);
@@ -206,71 +203,16 @@ pub fn number(r: Refusal) -> u8
     }
 }
 
-// A day's slots are at most 1,440: the number itself, or that.
-fn day_at_most(slots: usize) -> usize
-    ensures { λ r. ⌜ r ≡ min slots mostSlots ⌝ }
+// The record that the refusal names; 0 where it names none.
+pub fn place(r: Refusal) -> usize
+    ensures { λ k. ⌜ k ≡ refusalPlace r ⌝ }
 {
-    if slots < MOST_SLOTS as usize {
-        slots
-    } else {
-        MOST_SLOTS as usize
-    }
-}
-
-// Running totals of a harvest: entry k is what the first k slots harvest, for every k up to the
-// harvest's length and 1,440; zeros beyond.
-pub fn totals(harvest: &[u8]) -> [u32; TOTALS]
-    ensures { λ r. ⌜ TotalsOf (now (harvest .entry)) r × SmallTotals r × ZerosBeyond (now (harvest .entry)) r ⌝ }
-{
-    let mut sums = [0u32; TOTALS];
-    let mut sum: u32 = 0;
-    let slots = day_at_most(harvest.len());
-    let mut k = 0;
-    while k < slots {
-        sum += counted(harvest[k]) as u32;
-        k += 1;
-        sums[k] = sum;
-    }
-    sums
-}
-
-// A table's jobs by columns, one number of each job in the job's place and zeros beyond the last job:
-// a sum over all jobs runs over columns several times as fast. A job's cost is slots wanted × energy.
-pub struct Columns {
-    pub release: [u16; MOST_JOBS],
-    pub deadline: [u16; MOST_JOBS],
-    pub wanted: [u16; MOST_JOBS],
-    pub energy: [u8; MOST_JOBS],
-    pub cost: [u32; MOST_JOBS],
-}
-
-// The columns of a table of at most 64 jobs. Only for a table that was checked; `demand` and
-// `slot_run` call it so.
-pub fn by_columns(t: Table) -> Columns
-    requires { ⌜ t .count ≤ mostJobs ⌝ }
-    ensures { λ r. ⌜ (r ≡ columnsOf t) × SmallCosts (r .cost) ⌝ }
-{
-    let count = t.count;
-    let mut release = [0u16; MOST_JOBS];
-    let mut deadline = [0u16; MOST_JOBS];
-    let mut wanted = [0u16; MOST_JOBS];
-    let mut energy = [0u8; MOST_JOBS];
-    let mut costs = [0u32; MOST_JOBS];
-    let mut k = 0;
-    while k < count {
-        let j = t.jobs[k];
-        release[k] = j.release;
-        deadline[k] = j.deadline;
-        wanted[k] = j.wanted;
-        energy[k] = j.energy;
-        costs[k] = cost(j.wanted, j.energy);
-        k += 1;
-    }
-    Columns {
-        release,
-        deadline,
-        wanted,
-        energy,
-        cost: costs,
+    match r {
+        Refusal::Short => 0,
+        Refusal::Mark => 0,
+        Refusal::Counts => 0,
+        Refusal::Layout => 0,
+        Refusal::Window(k) => k,
+        Refusal::Work(k) => k,
     }
 }

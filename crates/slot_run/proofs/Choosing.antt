@@ -1,37 +1,39 @@
 -- What the choice finds: "the smallest deadline, ties the lowest number".
 use Prim.Native.Nat.{ℕ, zero, suc, _+_, _<_, _≤_}
 use mathlib.Core.Path.{_≡_, refl, sym, ap, ap₂, _∙_, subst}
-use mathlib.Core.Bool.{Bool, true, false, not, _&&_, _||_}
+use mathlib.Core.Bool.{Bool, true, false, cond, not, _&&_, _||_}
+use mathlib.Core.List.{List}
 use mathlib.Core.Logic.{_↔_, ⊎-elim, Iff·trans}
 use native.Mathlib.Nat.{not-suc-le-zero}
 use native.Mathlib.Numerals.{add-one}
 use native.Mathlib.Decide.{decLt}
 use native.Mathlib.Omega.{arith}
 use lib.Dec.{ltb, leb}
+use lib.ListN.{getD}
 use borrow.Author.Tests.{ltb-true, ltb-false, le-ltb}
-use Rattle.sheet.specs.Table.{jobOf}
-use Rattle.sheet.specs.declared.Table.{Table}
+use Rattle.sheet.specs.Table.{mostJobs, jobOf, Day}
+use Rattle.columns.specs.Columns.{ColumnsOf}
 use Rattle.sheet.proofs.Exactly.{either, never-both}
-use Rattle.slot_run.specs.Choosing.{Choice, nobody, job, smaller, earliest, deadlineOf, leftOf, ready, chosen, unfinished}
+use Rattle.slot_run.specs.Choosing.{smaller, earliest, deadlineOf, leftOf, ready, chosen, unfinished}
 use Rattle.slot_run.specs.declared.State.{State}
-use Rattle.slot_run.specs.Steps.{chosenSays, passes, DeadlineHeld, besides}
-use Rattle.slot_run.specs.declared.Chosen.{Chosen}
-use Rattle.slot_run.specs.declared.Chosen.the-variants.{Nobody, Job}
+use Rattle.slot_run.specs.Steps.{passesIn, deadlineIn}
+use Rattle.slot_run.specs.declared.Choice.{Choice}
+use Rattle.slot_run.specs.declared.Choice.the-variants.{Nobody, Job}
 
 -- ---- the fold, one number more
 
-pub earliest-none : (test : ℕ → Bool) (deadline : ℕ → ℕ) → earliest test deadline 0 ≡ nobody
+pub earliest-none : (test : ℕ → Bool) (deadline : ℕ → ℕ) → earliest test deadline 0 ≡ Nobody
 unfolding earliest
 earliest-none test deadline = refl
 
-pub earliest-passes : (test : ℕ → Bool) (deadline : ℕ → ℕ) (n : ℕ) → test n ≡ true
-    → earliest test deadline (n + 1) ≡ smaller deadline (earliest test deadline n) n
-unfolding earliest
-earliest-passes test deadline n e = ap (earliest test deadline) (add-one n) ∙ rw e
+module _ (test : ℕ → Bool) (deadline : ℕ → ℕ) (n : ℕ) (so-far : Choice) (is : so-far ≡ earliest test deadline n) where
+  pub earliest-passes : test n ≡ true → smaller deadline so-far n ≡ earliest test deadline (n + 1)
+  unfolding earliest
+  earliest-passes e = sym (ap (earliest test deadline) (add-one n) ∙ rw (e, is))
 
-pub earliest-fails : (test : ℕ → Bool) (deadline : ℕ → ℕ) (n : ℕ) → test n ≡ false → earliest test deadline (n + 1) ≡ earliest test deadline n
-unfolding earliest
-earliest-fails test deadline n e = ap (earliest test deadline) (add-one n) ∙ rw e
+  pub earliest-fails : test n ≡ false → so-far ≡ earliest test deadline (n + 1)
+  unfolding earliest
+  earliest-fails e = sym (ap (earliest test deadline) (add-one n) ∙ rw (e, is))
 
 -- ---- in the paper's words
 
@@ -43,13 +45,13 @@ pub record IsEarliest (test : ℕ → Bool) (deadline : ℕ → ℕ) (n k : ℕ)
   pub lowest : (i : ℕ) → i < k → test i ≡ true → deadline k < deadline i
 
 abbrev pub FoundAmong : (ℕ → Bool) → (ℕ → ℕ) → ℕ → Choice → Type 0
-FoundAmong test deadline n nobody = (i : ℕ) → i < n → test i ≡ false
-FoundAmong test deadline n (job k) = IsEarliest test deadline n k
+FoundAmong test deadline n Nobody = (i : ℕ) → i < n → test i ≡ false
+FoundAmong test deadline n (Job k) = IsEarliest test deadline n k
 
 module _ (test : ℕ → Bool) (deadline : ℕ → ℕ) where
   skipped : (n : ℕ) → test n ≡ false → (c : Choice) → FoundAmong test deadline n c → FoundAmong test deadline (suc n) c
-  skipped n e nobody f = λ i h. elim (decLt i n) [ yes l ↦ f i l | no l ↦ let same : n ≡ i = omega arith in subst (λ (j : ℕ). test j ≡ false) same e ]
-  skipped n e (job k) f =
+  skipped n e Nobody f = λ i h. elim (decLt i n) [ yes l ↦ f i l | no l ↦ let same : n ≡ i = omega arith in subst (λ (j : ℕ). test j ≡ false) same e ]
+  skipped n e (Job k) f =
       let l = f .below in
       record {
         below = omega arith;
@@ -59,14 +61,14 @@ module _ (test : ℕ → Bool) (deadline : ℕ → ℕ) where
       }
 
   taken : (n : ℕ) → test n ≡ true → (c : Choice) → FoundAmong test deadline n c → FoundAmong test deadline (suc n) (smaller deadline c n)
-  taken n e nobody f =
+  taken n e Nobody f =
       record {
         below = omega arith;
         passes = e;
         smallest = λ i h p. elim (decLt i n) [ yes m ↦ absurd (never-both p (f i m)) | no m ↦ let same : n ≡ i = omega arith in subst (λ (j : ℕ). deadline n ≤ deadline j) same (omega arith) ];
         lowest = λ i h p. absurd (never-both p (f i h));
       }
-  taken n e (job k) f =
+  taken n e (Job k) f =
       let l = f .below in
       ⊎-elim
       (λ t.
@@ -89,7 +91,7 @@ module _ (test : ℕ → Bool) (deadline : ℕ → ℕ) where
       }))
       (either (ltb (deadline n) (deadline k)))
 
-  -- The chosen number passes the test, has the smallest deadline among those that do, and of equal deadlines the lowest number; nobody is
+  -- The chosen number passes the test, has the smallest deadline among those that do, and of equal deadlines the lowest number; Nobody is
   -- chosen exactly where none passes.
   pub earliest-is : (n : ℕ) → FoundAmong test deadline n (earliest test deadline n)
   unfolding earliest
@@ -101,58 +103,60 @@ module _ (test : ℕ → Bool) (deadline : ℕ → ℕ) where
       (either (test n))
 
 -- what is chosen is below the count, and passes
-pub chosen-passes : (test : ℕ → Bool) (deadline : ℕ → ℕ) (n k : ℕ) → earliest test deadline n ≡ job k → IsEarliest test deadline n k
+pub chosen-passes : (test : ℕ → Bool) (deadline : ℕ → ℕ) (n k : ℕ) → earliest test deadline n ≡ Job k → IsEarliest test deadline n k
 chosen-passes test deadline n k e = subst (FoundAmong test deadline n) e (earliest-is test deadline n)
 
 -- The chosen job is ready, has the smallest deadline of the ready jobs, and among those the lowest number.
-pub chosen-is : (t : Table) (s : State) (k : ℕ) → chosen t s ≡ job k → IsEarliest (ready t s) (deadlineOf t) (t .count) k
+pub chosen-is : (d : Day) (s : State) (k : ℕ) → chosen d s ≡ Job k → IsEarliest (ready d s) (deadlineOf d) (d .table .count) k
 unfolding chosen
-chosen-is t s k e = chosen-passes (ready t s) (deadlineOf t) (t .count) k e
+chosen-is d s k e = chosen-passes (ready d s) (deadlineOf d) (d .table .count) k e
+
+-- tests and deadlines that agree below n choose alike
+pub earliest-same : (p q : ℕ → Bool) (f g : ℕ → ℕ) (n : ℕ) → ((k : ℕ) → k < n → p k ≡ q k) → ((k : ℕ) → k < n → f k ≡ g k)
+    → earliest p f n ≡ earliest q g n
+unfolding earliest
+earliest-same p q f g zero e h = refl
+earliest-same p q f g (suc n) e h =
+    let before : earliest p f n ≡ earliest q g n = earliest-same p q f g n (λ k l. e k (omega arith)) (λ k l. h k (omega arith)) in
+    rw (e n (omega arith), before) (ap (λ (c : Choice). cond (q n) c (earliest q g n)) (beside (earliest q g n) refl))
+  where
+    beside : (c : Choice) → earliest q g n ≡ c → smaller f c n ≡ smaller g c n
+    beside Nobody w = refl
+    beside (Job m) w =
+        let below = chosen-passes q g n m w .below in
+        ap₂ (λ (a b : ℕ). cond (ltb a b) (Job n) (Job m)) (h n (omega arith)) (h m (omega arith))
+
+-- read off a day's columns, the jobs that pass and their deadlines are the day's own
+pub earliest-read : (d : Day) (jobs left : List ℕ) → ColumnsOf (d .table) jobs → (only-ready : Bool) (slot count : ℕ) → d .table .count ≡ count → count ≤ mostJobs
+    → earliest (passesIn only-ready slot jobs left) (deadlineIn jobs) count
+    ≡ earliest (λ k. (not only-ready || (leb (jobOf (d .table) k .release) slot && ltb slot (deadlineOf d k))) && ltb 0 (getD left k 0)) (deadlineOf d) (d .table .count)
+earliest-read d jobs left columns only-ready slot count e few =
+    ap (earliest _ _) (sym e)
+    ∙ earliest-same _ _ _ _ (d .table .count)
+    (λ k h. rw (columns .release k h (omega arith), columns .deadline k h (omega arith)))
+    (λ k h. columns .deadline k h (omega arith))
 
 -- nobody is found exactly where none passes
-pub nobody-passes : (test : ℕ → Bool) (deadline : ℕ → ℕ) (n : ℕ) → (earliest test deadline n ≡ nobody) ↔ ((k : ℕ) → k < n → test k ≡ false)
+pub nobody-passes : (test : ℕ → Bool) (deadline : ℕ → ℕ) (n : ℕ) → (earliest test deadline n ≡ Nobody) ↔ ((k : ℕ) → k < n → test k ≡ false)
 nobody-passes test deadline n = (
   (λ e. subst (FoundAmong test deadline n) e (earliest-is test deadline n)),
   (λ none. go (earliest test deadline n) refl none),
 )
   where
-    go : (c : Choice) → earliest test deadline n ≡ c → ((k : ℕ) → k < n → test k ≡ false) → earliest test deadline n ≡ nobody
-    go nobody e none = e
-    go (job k) e none = let is = chosen-passes test deadline n k e in absurd (never-both (is .passes) (none k (is .below)))
+    go : (c : Choice) → earliest test deadline n ≡ c → ((k : ℕ) → k < n → test k ≡ false) → earliest test deadline n ≡ Nobody
+    go Nobody e none = e
+    go (Job k) e none = let is = chosen-passes test deadline n k e in absurd (never-both (is .passes) (none k (is .below)))
 
 -- Nobody is chosen exactly where no job is ready.
-pub nobody-ready : (t : Table) (s : State) → (chosen t s ≡ nobody) ↔ ((k : ℕ) → k < t .count → ready t s k ≡ false)
+pub nobody-ready : (d : Day) (s : State) → (chosen d s ≡ Nobody) ↔ ((k : ℕ) → k < d .table .count → ready d s k ≡ false)
 unfolding chosen
-nobody-ready t s = nobody-passes (ready t s) (deadlineOf t) (t .count)
+nobody-ready d s = nobody-passes (ready d s) (deadlineOf d) (d .table .count)
 
 -- Nobody is unfinished exactly where every job got its slots.
-pub nobody-unfinished : (t : Table) (s : State) → (unfinished t s ≡ nobody) ↔ ((k : ℕ) → k < t .count → leftOf s k ≡ 0)
+pub nobody-unfinished : (d : Day) (s : State) → (unfinished d s ≡ Nobody) ↔ ((k : ℕ) → k < d .table .count → leftOf s k ≡ 0)
 unfolding unfinished
-nobody-unfinished t s =
-    Iff·trans (nobody-passes (λ k. ltb 0 (leftOf s k)) (deadlineOf t) (t .count)) (
+nobody-unfinished d s =
+    Iff·trans (nobody-passes (λ k. ltb 0 (leftOf s k)) (deadlineOf d) (d .table .count)) (
       (λ none k h. let l = ltb-false 0 (leftOf s k) (none k h) in omega arith),
       (λ done k h. le-ltb 0 (leftOf s k) (let e = done k h in omega arith)),
     )
-
--- ---- the choice that the code holds
-
--- a job's test, with its numbers as the code reads them
-pub passes-read : (only-ready : Bool) (t : Table) (s : State) (k release deadline left : ℕ) (b : Bool) → release ≡ jobOf t k .release
-    → deadline ≡ deadlineOf t k → left ≡ leftOf s k → b ≡ ((not only-ready || (leb release (s .slot) && ltb (s .slot) deadline)) && ltb 0 left)
-    → b ≡ passes only-ready t s k
-passes-read only-ready t s k release deadline left b p q r e = e ∙ rw (p, q, r)
-
-pub beside-says : (t : Table) (so-far : Chosen) (k deadline : ℕ) → DeadlineHeld t so-far → deadline ≡ deadlineOf t k
-    → chosenSays (besides so-far k deadline) ≡ smaller (deadlineOf t) (chosenSays so-far) k
-beside-says t Nobody k deadline h e = refl
-beside-says t (Job m own) k deadline h e =
-    let same : ltb (deadlineOf t k) (deadlineOf t m) ≡ ltb deadline own = ap₂ ltb (sym e) (sym h) in
-    ⊎-elim
-    (λ b. let q : ltb (deadlineOf t k) (deadlineOf t m) ≡ true = same ∙ b in rw b (rw q))
-    (λ b. let q : ltb (deadlineOf t k) (deadlineOf t m) ≡ false = same ∙ b in rw b (rw q))
-    (either (ltb deadline own))
-
-pub beside-holds : (t : Table) (so-far : Chosen) (k deadline : ℕ) → DeadlineHeld t so-far → deadline ≡ deadlineOf t k
-    → DeadlineHeld t (besides so-far k deadline)
-beside-holds t Nobody k deadline h e = e
-beside-holds t (Job m own) k deadline h e = ⊎-elim (λ b. rw b e) (λ b. rw b h) (either (ltb deadline own))

@@ -1,22 +1,53 @@
--- The columns that are made of a table are those that are lent.
-use mathlib.Core.Path.{_≡_, refl, ap}
-use Rattle.sheet.specs.InColumns.{columnsOf, SmallCosts}
-use Rattle.sheet.specs.declared.Columns.{Columns}
+-- What is lent in a slot of a day shows that day, and what is read off its columns are the jobs' own numbers.
+use Prim.Native.Nat.{ℕ, _+_, _*_, _<_, _≤_}
+use mathlib.Core.Path.{_≡_, refl, ap, ap₂, _∙_}
+use mathlib.Core.List.{List}
+use native.Mathlib.Omega.{arith}
+use lib.ListN.{getD}
+use Rattle.sheet.specs.Sums.{harvestAt}
+use Rattle.sheet.specs.Table.{mostJobs, jobOf, costOf, Day, dayOf}
+use Rattle.sheet.specs.WellFormed.{GoodJob}
 use Rattle.sheet.specs.declared.Table.{Table}
-use Rattle.slot_run.specs.Steps.{Lent}
+use Rattle.totals.specs.Totals.{Summed}
+use Rattle.columns.specs.Columns.{ColumnsOf}
+use Rattle.slot_run.specs.declared.Now.{Now}
 use Rattle.slot_run.specs.declared.State.{State}
+use Rattle.slot_run.specs.Choosing.{deadlineOf}
+use Rattle.slot_run.specs.Steps.{Shows}
 
-pub energy-lent : (t : Table) (columns : Columns) → (columns ≡ columnsOf t) × SmallCosts (columns .cost) → columns .energy ≡ columnsOf t .energy
-energy-lent t columns made = ap (λ (x : Columns). x .energy) (made .0)
-
-pub columns-lent : (t : Table) (s : State) (columns : Columns) → (columns ≡ columnsOf t) × SmallCosts (columns .cost)
-    → Lent t s (columns .release) (columns .deadline) (columns .energy) (columns .cost) (s .left)
-columns-lent t s columns made =
+pub shows : (t : Table) (harvest jobs totals : List ℕ) (s : State) (at charge : ℕ) → Summed (dayOf t harvest) totals → ColumnsOf t jobs
+    → at ≡ s .slot → at < t .slots → charge ≡ s .level + harvestAt harvest at
+    → Shows (dayOf t harvest) (record { count = t .count; capacity = t .capacity; slot = s .slot; level = s .level; charge = charge; harvested = getD totals at 0 }) jobs totals
+shows t harvest jobs totals s at charge summed columns here in-day e =
     record {
-      release-is = ap (λ (x : Columns). x .release) (made .0);
-      deadline-is = ap (λ (x : Columns). x .deadline) (made .0);
-      energy-is = energy-lent t columns made;
-      cost-is = ap (λ (x : Columns). x .cost) (made .0);
-      small-costs = made .1;
-      left-is = refl;
+      summed = summed;
+      columns = columns;
+      in-day = omega arith;
+      count-is = refl;
+      capacity-is = refl;
+      charge-is = e ∙ ap (λ (n : ℕ). s .level + harvestAt harvest n) here;
+      harvested-is = ap (λ (n : ℕ). getD totals n 0) here;
+    }
+
+-- job k as it stands in the columns
+pub record Reads (d : Day) (jobs : List ℕ) (k : ℕ) : Type 0 where
+  pub few : k < mostJobs
+  pub release : getD jobs k 0 ≡ jobOf (d .table) k .release
+  pub deadline : getD jobs (64 + k) 0 ≡ deadlineOf d k
+  pub energy : getD jobs (192 + k) 0 ≡ jobOf (d .table) k .energy
+  pub cost : getD jobs (128 + k) 0 * getD jobs (192 + k) 0 ≡ costOf (jobOf (d .table) k)
+  pub job : GoodJob (d .table .slots) (jobOf (d .table) k)
+
+pub reads : {d : Day} {here : Now} {jobs totals : List ℕ} → Shows d here jobs totals → (k : ℕ) → k < here .count → Reads d jobs k
+reads {d} {here} {jobs} {totals} w k h =
+    let below : k < d .table .count = omega arith in
+    let few : k < mostJobs = omega (arith, w .summed .good .few-jobs) in
+    let energy = w .columns .energy k below few in
+    record {
+      few = few;
+      release = w .columns .release k below few;
+      deadline = w .columns .deadline k below few;
+      energy = energy;
+      cost = ap₂ _*_ (w .columns .wanted k below few) energy;
+      job = w .summed .good .good-jobs k below;
     }

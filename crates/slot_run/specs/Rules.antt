@@ -6,14 +6,15 @@ use lib.Dec.{ltb}
 use lib.ListN.{set}
 use Rattle.sheet.specs.Lists.{joined, filled}
 use Rattle.sheet.specs.Sums.{harvestAt}
-use Rattle.sheet.specs.Table.{mostJobs, idleByte, startLevel, jobOf}
-use Rattle.sheet.specs.declared.Table.{Table}
+use Rattle.sheet.specs.Table.{mostJobs, idleByte, startLevel, jobOf, Day}
+use Rattle.slot_run.specs.declared.Choice.{Choice}
+use Rattle.slot_run.specs.declared.Choice.the-variants.{Nobody, Job}
 use Rattle.slot_run.specs.declared.State.{State}
 use Rattle.slot_run.specs.declared.BusyWhy.the-variants.{Full, NoSlack, Free}
 use Rattle.slot_run.specs.declared.IdleWhy.the-variants.{None, Empty, Saving}
 use Rattle.slot_run.specs.declared.Decision.{Decision}
 use Rattle.slot_run.specs.declared.Decision.the-variants.{Busy, Idle}
-use Rattle.slot_run.specs.Choosing.{Choice, nobody, job, chosen, deadlineOf, leftOf}
+use Rattle.slot_run.specs.Choosing.{chosen, deadlineOf, leftOf}
 use Rattle.slot_run.specs.Slack.{slackTime, slackEnergy, zeroOrLess, isBelow}
 
 -- what a slot does, by the number of the rule that applied
@@ -31,8 +32,8 @@ decisionSays (Idle Saving) = idle 5
 decisionSays (Busy k Free) = busy 6 k
 
 -- the charge at hand in the slot: level + p
-abbrev pub atHand : List ℕ → State → ℕ
-atHand harvest s = s .level + harvestAt harvest (s .slot)
+abbrev pub atHand : Day → State → ℕ
+atHand d s = s .level + harvestAt (d .harvest) (s .slot)
 
 -- "First rule that applies", of rules 2 to 6 for the chosen job k:
 -- 2. level + p below the chosen job's energy: idle, `empty`
@@ -40,54 +41,53 @@ atHand harvest s = s .level + harvestAt harvest (s .slot)
 -- 4. slack time 0 or less: busy, `noslack`
 -- 5. slack energy below the job's energy: idle, `saving`
 -- 6. busy, `free`
-unfoldable pub ruleFor : Table → List ℕ → State → ℕ → Ruled
-ruleFor t harvest s k =
-    cond (ltb (atHand harvest s) (jobOf t k .energy)) (idle 2)
-    (cond (ltb (t .capacity) (atHand harvest s)) (busy 3 k)
-    (cond (zeroOrLess (slackTime t s)) (busy 4 k)
-    (cond (isBelow (slackEnergy t harvest s (deadlineOf t k)) (jobOf t k .energy)) (idle 5)
+unfoldable pub ruleFor : Day → State → ℕ → Ruled
+ruleFor d s k =
+    cond (ltb (atHand d s) (jobOf (d .table) k .energy)) (idle 2)
+    (cond (ltb (d .table .capacity) (atHand d s)) (busy 3 k)
+    (cond (zeroOrLess (slackTime d s)) (busy 4 k)
+    (cond (isBelow (slackEnergy d s (deadlineOf d k)) (jobOf (d .table) k .energy)) (idle 5)
     (busy 6 k))))
 
 -- 1. nothing ready: idle, `none`
-abbrev pub ruleOn : Table → List ℕ → State → Choice → Ruled
-ruleOn t harvest s nobody = idle 1
-ruleOn t harvest s (job k) = ruleFor t harvest s k
+abbrev pub ruleOn : Day → State → Choice → Ruled
+ruleOn d s Nobody = idle 1
+ruleOn d s (Job k) = ruleFor d s k
 
-unfoldable pub decided : Table → List ℕ → State → Ruled
-decided t harvest s = ruleOn t harvest s (chosen t s)
+unfoldable pub decided : Day → State → Ruled
+decided d s = ruleOn d s (chosen d s)
 
 -- the energy spent, and the slots still wanted, after a slot
-abbrev pub spent : Table → Ruled → ℕ
-spent t (idle rule) = 0
-spent t (busy rule k) = jobOf t k .energy
+abbrev pub spent : Day → Ruled → ℕ
+spent d (idle rule) = 0
+spent d (busy rule k) = jobOf (d .table) k .energy
 
 abbrev pub leftAfter : State → Ruled → List ℕ
 leftAfter s (idle rule) = s .left
 leftAfter s (busy rule k) = set (s .left) k (leftOf s k - 1)
 
 -- "The next level is the lesser of capacity and level + p − energy spent."
-abbrev pub stateBy : Table → List ℕ → State → Ruled → State
-stateBy t harvest s d =
-    record { slot = s .slot + 1; level = min (t .capacity) (atHand harvest s - spent t d); left = leftAfter s d }
+abbrev pub stateBy : Day → State → Ruled → State
+stateBy d s ruled = record { slot = s .slot + 1; level = min (d .table .capacity) (atHand d s - spent d ruled); left = leftAfter s ruled }
 
-unfoldable pub nextState : Table → List ℕ → State → State
-nextState t harvest s = stateBy t harvest s (decided t harvest s)
+unfoldable pub nextState : Day → State → State
+nextState d s = stateBy d s (decided d s)
 
 -- ---- the whole day
 
 -- "The level starts at capacity", and every job wants all its slots
-unfoldable pub firstState : Table → State
-firstState t = record { slot = 0; level = startLevel t; left = filled (λ k. jobOf t k .wanted) 0 mostJobs (t .count) }
+unfoldable pub firstState : Day → State
+firstState d = record { slot = 0; level = startLevel (d .table); left = filled (λ k. jobOf (d .table) k .wanted) 0 mostJobs (d .table .count) }
 
 -- the state as slot n begins
-unfoldable pub stateAt : Table → List ℕ → ℕ → State
-stateAt t harvest zero = firstState t
-stateAt t harvest (suc n) = nextState t harvest (stateAt t harvest n)
+unfoldable pub stateAt : Day → ℕ → State
+stateAt d zero = firstState d
+stateAt d (suc n) = nextState d (stateAt d n)
 
 -- "one byte a slot, the job's number or 255 for idle"
 abbrev pub planByte : Ruled → ℕ
 planByte (idle rule) = idleByte
 planByte (busy rule k) = k
 
-unfoldable pub planOf : Table → List ℕ → List ℕ
-planOf t harvest = joined (λ n. planByte (decided t harvest (stateAt t harvest n)) ∷ []) (t .slots)
+unfoldable pub planOf : Day → List ℕ
+planOf d = joined (λ n. planByte (decided d (stateAt d n)) ∷ []) (d .table .slots)

@@ -1,13 +1,11 @@
--- The two slacks: numbers that may be below 0, or unlimited. `proofs/Slacks.antt` says that each is the least over the jobs that the paper names.
-use Prim.Native.Nat.{ℕ, zero, suc, _+_, _*_}
-use mathlib.Core.List.{List}
+-- The two slacks: numbers that may be below 0, or unlimited. `slack-time-is` and `slack-energy-is` say that each is the least over the jobs that the paper names.
+use Prim.Native.Nat.{ℕ, zero, suc, _+_}
 use mathlib.Core.Bool.{Bool, false, cond, _&&_}
 use lib.Dec.{ltb, leb}
 use lib.IntN.{ℤ, pos, _-ℤ_}
 use lib.Signed.{ltZ, leZ}
 use Rattle.sheet.specs.Sums.{totalOf, harvestOf}
-use Rattle.sheet.specs.Table.{jobOf}
-use Rattle.sheet.specs.declared.Table.{Table}
+use Rattle.sheet.specs.Table.{jobOf, costOf, Day}
 use Rattle.slot_run.specs.declared.State.{State}
 use Rattle.slot_run.specs.Choosing.{deadlineOf, leftOf}
 
@@ -37,36 +35,36 @@ isBelow (exactly z) e = ltZ z (pos e)
 -- ---- "The slack time"
 
 -- "over each job with deadline D after t and slots still wanted"
-abbrev pub wants : Table → State → ℕ → Bool
-wants t s k = ltb (s .slot) (deadlineOf t k) && ltb 0 (leftOf s k)
+abbrev pub wants : Day → State → ℕ → Bool
+wants d s k = ltb (s .slot) (deadlineOf d k) && ltb 0 (leftOf s k)
 
 -- "slots still wanted by all jobs with deadlines after t and up to D, released or not"
-unfoldable pub pending : Table → State → ℕ → ℕ
-pending t s end = totalOf (λ k. ltb (s .slot) (deadlineOf t k) && leb (deadlineOf t k) end) (leftOf s) (t .count)
+unfoldable pub pending : Day → State → ℕ → ℕ
+pending d s end = totalOf (λ k. ltb (s .slot) (deadlineOf d k) && leb (deadlineOf d k) end) (leftOf s) (d .table .count)
 
 -- "D − t − (slots still wanted ..)"
-abbrev pub slackTimeAt : Table → State → ℕ → ℤ
-slackTimeAt t s k = pos (deadlineOf t k) -ℤ pos (s .slot) -ℤ pos (pending t s (deadlineOf t k))
+abbrev pub slackTimeAt : Day → State → ℕ → ℤ
+slackTimeAt d s k = pos (deadlineOf d k) -ℤ pos (s .slot) -ℤ pos (pending d s (deadlineOf d k))
 
 -- "Take the least. No such job: unlimited."
-unfoldable pub slackTime : Table → State → Slack
-slackTime t s = least (wants t s) (slackTimeAt t s) (t .count)
+unfoldable pub slackTime : Day → State → Slack
+slackTime d s = least (wants d s) (slackTimeAt d s) (d .table .count)
 
 -- ---- "The slack energy"
 
 -- "over each job released after t with deadline D below the chosen job's"
-abbrev pub comesBefore : Table → State → ℕ → ℕ → Bool
-comesBefore t s own k = ltb (s .slot) (jobOf t k .release) && ltb (deadlineOf t k) own
+abbrev pub comesBefore : Day → State → ℕ → ℕ → Bool
+comesBefore d s own k = ltb (s .slot) (jobOf (d .table) k .release) && ltb (deadlineOf d k) own
 
 -- "slots wanted × energy of all jobs released after t with deadlines up to D"
-unfoldable pub coming : Table → State → ℕ → ℕ
-coming t s end =
-    totalOf (λ k. ltb (s .slot) (jobOf t k .release) && leb (deadlineOf t k) end) (λ k. jobOf t k .wanted * jobOf t k .energy) (t .count)
+unfoldable pub coming : Day → State → ℕ → ℕ
+coming d s end =
+    totalOf (λ k. ltb (s .slot) (jobOf (d .table) k .release) && leb (deadlineOf d k) end) (λ k. costOf (jobOf (d .table) k)) (d .table .count)
 
 -- "level + harvest of slots t to D − 1 − (slots wanted × energy ..)"
-abbrev pub slackEnergyAt : Table → List ℕ → State → ℕ → ℤ
-slackEnergyAt t harvest s k = pos (s .level + harvestOf harvest (s .slot) (deadlineOf t k)) -ℤ pos (coming t s (deadlineOf t k))
+abbrev pub slackEnergyAt : Day → State → ℕ → ℤ
+slackEnergyAt d s k = pos (s .level + harvestOf (d .harvest) (s .slot) (deadlineOf d k)) -ℤ pos (coming d s (deadlineOf d k))
 
 -- "Take the least, which may be below 0. No such job: unlimited." `own` is the chosen job's deadline
-unfoldable pub slackEnergy : Table → List ℕ → State → ℕ → Slack
-slackEnergy t harvest s own = least (comesBefore t s own) (slackEnergyAt t harvest s) (t .count)
+unfoldable pub slackEnergy : Day → State → ℕ → Slack
+slackEnergy d s own = least (comesBefore d s own) (slackEnergyAt d s) (d .table .count)

@@ -1,66 +1,44 @@
 -- What the run's own steps hand each other. No promise of a public call rests on this page.
-use Prim.Native.Nat.{ℕ, _+_, _<_, _≤_}
+use Prim.Native.Nat.{ℕ, _+_, _<_}
 use mathlib.Core.Path.{_≡_}
-use mathlib.Core.List.{List}
-use mathlib.Core.Bool.{Bool, cond, not, _&&_, _||_}
+use mathlib.Core.List.{List, []}
+use mathlib.Core.Bool.{Bool, not, _&&_, _||_}
 use lib.ListN.{getD}
 use lib.Dec.{ltb, leb}
-use Rattle.sheet.specs.InColumns.{columnsOf, SmallCosts}
-use Rattle.sheet.specs.Sums.{TotalsOf, SmallTotals}
-use Rattle.sheet.specs.Table.{mostJobs, mostSlots, jobOf}
-use Rattle.sheet.specs.WellFormed.{GoodTable}
-use Rattle.sheet.specs.declared.Table.{Table}
-use Rattle.slot_run.specs.Choosing.{Choice, nobody, job, deadlineOf, leftOf}
-use Rattle.slot_run.specs.Slack.{comesBefore, coming}
+use Rattle.sheet.specs.Table.{Day}
+use Rattle.totals.specs.Totals.{Summed}
+use Rattle.columns.specs.Columns.{ColumnsOf}
+use Rattle.slot_run.specs.Rules.{atHand, decisionSays, decided, nextState}
+use Rattle.slot_run.specs.declared.Now.{Now}
 use Rattle.slot_run.specs.declared.State.{State}
-use Rattle.slot_run.specs.declared.Chosen.{Chosen}
-use Rattle.slot_run.specs.declared.Chosen.the-variants.{Nobody, Job}
+use Rattle.slot_run.specs.declared.rules.Taken.{Taken}
 
--- the choice that is held, without its deadline
-abbrev pub chosenSays : Chosen → Choice
-chosenSays Nobody = nobody
-chosenSays (Job k deadline) = job k
+-- the state that a slot's numbers and what is left of the jobs make
+abbrev pub stateOf : Now → List ℕ → State
+stateOf here left = record { slot = here .slot; level = here .level; left = left }
 
--- the two tests of a choice: ready, or only slots still wanted
-abbrev pub passes : Bool → Table → State → ℕ → Bool
-passes only-ready t s k =
-    (not only-ready || (leb (jobOf t k .release) (s .slot) && ltb (s .slot) (deadlineOf t k))) && ltb 0 (leftOf s k)
+-- the numbers, the columns and the totals are those of a slot of this day; the numbers and the columns are, whatever the totals
+pub record Shows (d : Day) (here : Now) (jobs totals : List ℕ) : Type 0 where
+  pub summed : Summed d totals
+  pub columns : ColumnsOf (d .table) jobs
+  pub in-day : here .slot < d .table .slots
+  pub count-is : here .count ≡ d .table .count
+  pub capacity-is : here .capacity ≡ d .table .capacity
+  pub charge-is : here .charge ≡ atHand d (stateOf here [])
+  pub harvested-is : here .harvested ≡ getD totals (here .slot) 0
 
--- the deadline that is held is the job's own
-abbrev pub DeadlineHeld : Table → Chosen → Type 0
-DeadlineHeld t Nobody = Unit {0}
-DeadlineHeld t (Job k deadline) = deadline ≡ deadlineOf t k
+abbrev pub Shown : Day → Now → List ℕ → Type 0
+Shown d here jobs = (totals : List ℕ) × Shows d here jobs totals
 
--- job k beside the choice so far
-abbrev pub besides : Chosen → ℕ → ℕ → Chosen
-besides Nobody k deadline = Job k deadline
-besides (Job m own) k deadline = cond (ltb deadline own) (Job k deadline) (Job m own)
+-- what a slot did is what the rules decide, and with what it left it makes the next state
+pub record Takes (d : Day) (s : State) (r : Taken) (left : List ℕ) : Type 0 where
+  pub decided-is : decisionSays (r .decision) ≡ decided d s
+  pub next-is : record { slot = s .slot + 1; level = r .level; left = left } ≡ nextState d s
 
--- few jobs, deadlines within the longest day, a slot of it, and totals of it: no index and no sum goes astray
-pub record Bounded (t : Table) (totals : List ℕ) (s : State) : Type 0 where
-  pub few : t .count ≤ mostJobs
-  pub ends : (k : ℕ) → k < t .count → deadlineOf t k ≤ mostSlots
-  pub slot-in : s .slot ≤ mostSlots
-  pub small : SmallTotals totals
+-- the two tests of a choice, ready or only slots still wanted, and the deadline, as they are read off columns
+abbrev pub passesIn : Bool → ℕ → List ℕ → List ℕ → ℕ → Bool
+passesIn only-ready slot jobs left k =
+    (not only-ready || (leb (getD jobs k 0) slot && ltb slot (getD jobs (64 + k) 0))) && ltb 0 (getD left k 0)
 
--- columns that are the table's, and what the state leaves
-pub record Lent (t : Table) (s : State) (release deadline energy cost left : List ℕ) : Type 0 where
-  pub release-is : release ≡ columnsOf t .release
-  pub deadline-is : deadline ≡ columnsOf t .deadline
-  pub energy-is : energy ≡ columnsOf t .energy
-  pub cost-is : cost ≡ columnsOf t .cost
-  pub small-costs : SmallCosts cost
-  pub left-is : left ≡ s .left
-
--- what rule 5 asks of job k, by running totals
-abbrev pub needsChargeBy : Table → List ℕ → State → ℕ → ℕ → ℕ → Bool
-needsChargeBy t totals s own energy k =
-    comesBefore t s own k
-    && ltb (s .level + getD totals (deadlineOf t k) 0) (coming t s (deadlineOf t k) + energy + getD totals (s .slot) 0)
-
--- a table and harvest that were checked, with the harvest's running totals, in a slot of the day
-pub record InDay (t : Table) (harvest totals : List ℕ) (s : State) : Type 0 where
-  pub good : GoodTable t harvest
-  pub totals-are : TotalsOf harvest totals
-  pub small : SmallTotals totals
-  pub in-day : s .slot < t .slots
+abbrev pub deadlineIn : List ℕ → ℕ → ℕ
+deadlineIn jobs k = getD jobs (64 + k) 0

@@ -4,24 +4,25 @@ use Prim.Native.Nat.{ℕ}
 use mathlib.Core.Path.{_≡_, refl}
 use mathlib.Core.List.{List, [], _∷_}
 use lib.ListN.{length, replicate}
+use Rattle.sheet.specs.HandedIn.{onSheet}
 use Rattle.sheet.specs.Lists.{joined, filled}
 use Rattle.sheet.specs.Paper.{Check, gives, refuses, refusesAt, inOrder}
 use Rattle.sheet.specs.Refusals.{inTurn}
 use Rattle.sheet.specs.Sums.{total, some, harvestOf}
-use Rattle.sheet.specs.Table.{countsFault, windowFault, workFault}
+use Rattle.sheet.specs.Table.{countedAs, countsFault, windowFault, workFault}
 use Rattle.sheet.specs.Sheet.{recordBytes, trailerBytes, sheetBytes, tableIn, harvestIn, markFault, layoutFault, sheetFaults, sheetSays}
 use Rattle.sheet.specs.declared.Job.{Job}
-use Rattle.demand.specs.Demand.{kindNumber, timeDemand, energyDemand, energySupply, overloaded}
+use Rattle.demand.specs.Demand.{kindNumber, demandOf, overloaded}
 use Rattle.demand.specs.Search.{isRelease, isDeadline, foundAt, latestStart, smallestEnd}
 use Rattle.demand.specs.declared.Kind.{Kind}
 use Rattle.demand.specs.declared.Kind.the-variants.{Time, Energy}
 use Rattle.slot_run.specs.Choosing.{ready, earliest, chosen, unfinished}
 use Rattle.slot_run.specs.Slack.{least, pending, slackTime, coming, slackEnergy}
 use Rattle.slot_run.specs.Rules.{ruleFor, decided, nextState, firstState, stateAt, planOf}
-use Rattle.planner.specs.Plan.{Verdict, met, undecided, verdictOf, planSheet, sheetPlanned}
+use Rattle.planner.specs.Plan.{Verdict, met, undecided, verdictOf, planFor, planLeft}
 use Rattle.planner.specs.Plan as Plan
 use Rattle.judge.specs.Evidence.{slotsGot, spentIn, levelAt}
-use Rattle.judge.specs.Judge.{namesNothing, jobSays, slotSays, slotsSay, planSays, planOnSheet, claimFault, claimSays, claimOnSheet, sumsOf, sumsBy, sumsOnSheet}
+use Rattle.judge.specs.Judge.{namesNothing, jobSays, slotSays, slotsSay, planSays, judgedPlan, claimFault, claimSays, judgedClaim, sumsOf, judgedSums}
 
 -- ---- what goes in
 
@@ -93,17 +94,17 @@ days =
 -- a row comes out as it must
 abbrev Right : Row → Type 0
 Right (reads sheet bytes) = sheet ≡ bytes
-Right (plans sheet slots answer after) = (planSheet sheet (before slots) ≡ gives answer) × (sheetPlanned sheet (before slots) ≡ after)
-Right (judges sheet plan answer) = planOnSheet sheet plan ≡ answer
+Right (plans sheet slots answer after) = (planFor (onSheet sheet) (before slots) ≡ gives answer) × (planLeft (onSheet sheet) (before slots) ≡ after)
+Right (judges sheet plan answer) = judgedPlan (onSheet sheet) plan ≡ answer
 Right (weighs sheet kind from to answer demand supply) =
-    (claimOnSheet sheet (kindNumber kind) from to ≡ answer)
-    × (sumsOnSheet sheet (kindNumber kind) from to ≡ record { demand = demand; supply = supply })
+    (judgedClaim (onSheet sheet) (kindNumber kind) from to ≡ answer)
+    × (judgedSums (onSheet sheet) (kindNumber kind) from to ≡ record { demand = demand; supply = supply })
 
 abbrev All : List Numbered → Type 0
 All [] = Unit {0}
 All (d ∷ ds) = Right (d .row) × All ds
 
 pub days-are-right : All days
-unfolding joined filled inOrder inTurn total some harvestOf countsFault windowFault workFault recordBytes trailerBytes sheetBytes tableIn harvestIn markFault layoutFault sheetFaults sheetSays timeDemand energyDemand energySupply overloaded isRelease isDeadline foundAt latestStart smallestEnd ready earliest chosen unfinished least pending slackTime coming slackEnergy ruleFor decided nextState firstState stateAt planOf verdictOf planSheet sheetPlanned slotsGot spentIn levelAt namesNothing jobSays slotSays slotsSay planSays planOnSheet claimFault claimSays claimOnSheet sumsOf sumsBy sumsOnSheet
+unfolding joined filled inOrder inTurn total some countedAs harvestOf countsFault windowFault workFault recordBytes trailerBytes sheetBytes tableIn harvestIn markFault layoutFault sheetFaults sheetSays demandOf overloaded isRelease isDeadline foundAt latestStart smallestEnd ready earliest chosen unfinished least pending slackTime coming slackEnergy ruleFor decided nextState firstState stateAt planOf verdictOf planFor planLeft slotsGot spentIn levelAt namesNothing jobSays slotSays slotsSay planSays judgedPlan claimFault claimSays judgedClaim sumsOf judgedSums
 days-are-right =
     ((refl, refl), (refl, ((refl, refl), ((refl, refl), ((refl, refl), ((refl, refl), ((refl, refl), ((refl, refl), ((refl, refl), ((refl, refl), ((refl, refl), (refl, (refl, (refl, ((refl, refl), tt)))))))))))))))

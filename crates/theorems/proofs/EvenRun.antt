@@ -7,99 +7,93 @@ use mathlib.Core.Logic.{inl, inr, ⊎-elim}
 use native.Mathlib.Decide.{decLt, decLe, ℕ-discrete}
 use native.Mathlib.Omega.{arith}
 use lib.Dec.{ltb}
-use lib.ListN.{length, getD, set, List·getD-eq-default}
+use lib.ListN.{getD, set}
 use lib.Seq.{getD-set-same, getD-set-other}
 use borrow.Author.Tests.{le-leb, lt-leb, ltb-true, ltb-false}
 use Rattle.sheet.specs.Sums.{harvestAt, harvestOf}
-use Rattle.sheet.specs.Table.{mostJobs, jobOf}
-use Rattle.sheet.specs.WellFormed.{GoodTable}
-use Rattle.sheet.specs.declared.Table.{Table}
+use Rattle.sheet.specs.Table.{mostJobs, jobOf, costOf, Day}
+use Rattle.sheet.specs.WellFormed.{GoodDay}
 use Rattle.sheet.proofs.Exactly.{either}
 use Rattle.sheet.proofs.Words.{and-true}
 use Rattle.sheet.proofs.Lists.{filled-get}
 use Rattle.sheet.proofs.Sums.{total-same, total-bound, harvest-from}
-use Rattle.demand.specs.Demand.{within, timeDemand, energyDemand, energySupply, Overloaded}
+use Rattle.demand.specs.Demand.{within, demandOf, Overloaded}
 use Rattle.demand.specs.declared.Kind.{Kind}
 use Rattle.demand.specs.declared.Kind.the-variants.{Time, Energy}
 use Rattle.demand.proofs.Shrinking.{not-empty}
+use Rattle.slot_run.specs.declared.Choice.{Choice}
+use Rattle.slot_run.specs.declared.Choice.the-variants.{Nobody, Job}
 use Rattle.slot_run.specs.declared.State.{State}
-use Rattle.slot_run.specs.Choosing.{Choice, nobody, job, ready, chosen, deadlineOf, leftOf}
+use Rattle.slot_run.specs.Choosing.{ready, chosen, deadlineOf, leftOf}
 use Rattle.slot_run.specs.Slack.{slackTime, zeroOrLess, slackEnergy, isBelow}
 use Rattle.slot_run.specs.Rules.{Ruled, idle, busy, atHand, ruleFor, ruleOn, decided, nextState, firstState, stateAt}
 use Rattle.slot_run.proofs.Choosing.{chosen-is, nobody-ready}
 use Rattle.slot_run.proofs.Running.{state-first, state-next, state-slot}
 use Rattle.slot_run.proofs.RuleLaws.{rule-2, rule-3, rule-4, rule-5, rule-6, busy-facts, idle-leaves, busy-leaves}
 use Rattle.theorems.specs.Even.{EvenDay}
+use Rattle.theorems.proofs.RunPlan.{holds-a-place}
 use Rattle.theorems.proofs.EvenNumbers
 use Rattle.theorems.proofs.EvenNumbers.{Numbers, Rests, Serves, Ground, Did, IsEvenRun, full, noslack, free, none, empty, saving, done-in-time}
 use Rattle.theorems.proofs.EvenWork.{sum-at-most, sum-falls, upTo, workLeft, left-at-most, NoneReady, all-later, slack-left, energy-left, no-slack-left}
 
 -- ---- what a slot leaves of each job
 
--- a number above 0 stands in the list
-in-list : (l : List ℕ) (k : ℕ) → 1 ≤ getD l k 0 → k < length l
-in-list l k h =
-    elim (decLt k (length l)) [
-      | yes i ↦ i
-      | no i ↦ let beyond = List·getD-eq-default l 0 {n = k} (omega arith) in absurd (omega arith)
-    ]
-
-module _ (t : Table) (harvest : List ℕ) (s : State) where
+module _ (d : Day) (s : State) where
   -- the state after the slot
   abbrev after : State
-  after = nextState t harvest s
+  after = nextState d s
 
-  module _ (rule : ℕ) (e : decided t harvest s ≡ idle rule) where
+  module _ (rule : ℕ) (e : decided d s ≡ idle rule) where
     -- an idle slot
-    idle-level : after .level ≡ min (t .capacity) (atHand harvest s)
-    idle-level = sym (idle-leaves t harvest s (atHand harvest s) _ (s .left) refl refl rule e refl .0)
+    idle-level : after .level ≡ min (d .table .capacity) (atHand d s)
+    idle-level = sym (idle-leaves d s (atHand d s) _ (s .left) refl refl rule e refl .0)
 
     idle-left : (k : ℕ) → leftOf after k ≡ leftOf s k
-    idle-left k = ap (λ (l : List ℕ). getD l k 0) (sym (idle-leaves t harvest s (atHand harvest s) _ (s .left) refl refl rule e refl .1))
+    idle-left k = ap (λ (l : List ℕ). getD l k 0) (sym (idle-leaves d s (atHand d s) _ (s .left) refl refl rule e refl .1))
 
-    idle-work : (end : ℕ) → workLeft t after end ≡ workLeft t s end
+    idle-work : (end : ℕ) → workLeft d after end ≡ workLeft d s end
     unfolding workLeft
-    idle-work end = total-same _ _ (t .count) (λ k h. ap (λ (x : ℕ). cond (upTo t end k) x 0) (idle-left k))
+    idle-work end = total-same _ _ (d .table .count) (λ k h. ap (λ (x : ℕ). cond (upTo d end k) x 0) (idle-left k))
 
-  module _ (rule m : ℕ) (e : decided t harvest s ≡ busy rule m) where
+  module _ (rule m : ℕ) (e : decided d s ≡ busy rule m) where
     -- a slot busy with job m
-    busy-level : jobOf t m .energy ≡ 1 → after .level ≡ min (t .capacity) (atHand harvest s - 1)
-    busy-level one = sym (busy-leaves t harvest s (atHand harvest s) _ (s .left) refl refl rule m 1 e (sym one) refl .0)
+    busy-level : jobOf (d .table) m .energy ≡ 1 → after .level ≡ min (d .table .capacity) (atHand d s - 1)
+    busy-level one = sym (busy-leaves d s (atHand d s) _ (s .left) refl refl rule m 1 e (sym one) refl .0)
 
     busy-list : after .left ≡ set (s .left) m (leftOf s m - 1)
-    busy-list = sym (busy-leaves t harvest s (atHand harvest s) _ (s .left) refl refl rule m _ e refl refl .1)
+    busy-list = sym (busy-leaves d s (atHand d s) _ (s .left) refl refl rule m _ e refl refl .1)
 
     busy-own : leftOf after m + 1 ≡ leftOf s m
     busy-own =
-        let some-left = busy-facts t harvest s rule m e .1 in
-        let stored = ap (λ (l : List ℕ). getD l m 0) busy-list ∙ getD-set-same (s .left) m (leftOf s m - 1) 0 (in-list (s .left) m some-left) in
+        let some-left = busy-facts d s rule m e .1 in
+        let stored = ap (λ (l : List ℕ). getD l m 0) busy-list ∙ getD-set-same (s .left) m (leftOf s m - 1) 0 (holds-a-place (s .left) m some-left) in
         omega arith
 
     busy-other : (k : ℕ) → (k ≡ m → ⊥) → leftOf after k ≡ leftOf s k
     busy-other k differs = ap (λ (l : List ℕ). getD l k 0) busy-list ∙ getD-set-other (s .left) m k (leftOf s m - 1) 0 differs
 
     -- it serves every end from its deadline on
-    busy-serves : (end : ℕ) → deadlineOf t m ≤ end → workLeft t after end + 1 ≡ workLeft t s end
+    busy-serves : (end : ℕ) → deadlineOf d m ≤ end → workLeft d after end + 1 ≡ workLeft d s end
     unfolding workLeft
-    busy-serves end h = sum-falls (upTo t end) (leftOf s) (leftOf after) (t .count) m (busy-facts t harvest s rule m e .0) (le-leb _ _ h) busy-own busy-other
+    busy-serves end h = sum-falls (upTo d end) (leftOf s) (leftOf after) (d .table .count) m (busy-facts d s rule m e .0) (le-leb _ _ h) busy-own busy-other
 
     -- and none before
-    busy-stays : (end : ℕ) → end < deadlineOf t m → workLeft t after end ≡ workLeft t s end
+    busy-stays : (end : ℕ) → end < deadlineOf d m → workLeft d after end ≡ workLeft d s end
     unfolding workLeft
-    busy-stays end h = total-same _ _ (t .count) same
+    busy-stays end h = total-same _ _ (d .table .count) same
       where
-        same : (k : ℕ) → k < t .count → cond (upTo t end k) (leftOf after k) 0 ≡ cond (upTo t end k) (leftOf s k) 0
+        same : (k : ℕ) → k < d .table .count → cond (upTo d end k) (leftOf after k) 0 ≡ cond (upTo d end k) (leftOf s k) 0
         same k l =
             elim (ℕ-discrete k m) [
-              | yes own ↦ let out = ap (upTo t end) own ∙ lt-leb (deadlineOf t m) end h in rw out
-              | no other ↦ ap (λ (x : ℕ). cond (upTo t end k) x 0) (busy-other k other)
+              | yes own ↦ let out = ap (upTo d end) own ∙ lt-leb (deadlineOf d m) end h in rw out
+              | no other ↦ ap (λ (x : ℕ). cond (upTo d end k) x 0) (busy-other k other)
             ]
 
   -- no job has more left after a slot than before it
   left-falls : (k : ℕ) → leftOf after k ≤ leftOf s k
-  left-falls k = go (decided t harvest s) refl
+  left-falls k = go (decided d s) refl
     where
-      go : (d : Ruled) → decided t harvest s ≡ d → leftOf after k ≤ leftOf s k
+      go : (x : Ruled) → decided d s ≡ x → leftOf after k ≤ leftOf s k
       go (idle rule) e = let same = idle-left rule e k in omega arith
       go (busy rule m) e =
           elim (ℕ-discrete k m) [
@@ -110,205 +104,204 @@ module _ (t : Table) (harvest : List ℕ) (s : State) where
 -- ---- the day's numbers
 
 -- `demand` is time demand, which on an even day is energy demand too
-abbrev numbersOf : Table → List ℕ → Numbers
-numbersOf t harvest =
+abbrev numbersOf : Day → Numbers
+numbersOf d =
     record {
-      slots = t .slots;
-      capacity = t .capacity;
-      work = λ n. workLeft t (stateAt t harvest n);
-      level = λ n. stateAt t harvest n .level;
-      comes = harvestAt harvest;
-      harvest = harvestOf harvest;
-      demand = timeDemand t;
+      slots = d .table .slots;
+      capacity = d .table .capacity;
+      work = λ n. workLeft d (stateAt d n);
+      level = λ n. stateAt d n .level;
+      comes = harvestAt (d .harvest);
+      harvest = harvestOf (d .harvest);
+      demand = demandOf Time d;
     }
 
 -- no job ever has more left than it wanted
-at-most-wanted : (t : Table) (harvest : List ℕ) (n k : ℕ) → k < t .count → leftOf (stateAt t harvest n) k ≤ jobOf t k .wanted
+at-most-wanted : (d : Day) (n k : ℕ) → k < d .table .count → leftOf (stateAt d n) k ≤ jobOf (d .table) k .wanted
 unfolding stateAt firstState
-at-most-wanted t harvest zero k h = let first = filled-get (λ i. jobOf t i .wanted) 0 mostJobs (t .count) k h in omega arith
-at-most-wanted t harvest (suc n) k h =
-    let before = at-most-wanted t harvest n k h in
-    let falls = left-falls t harvest (stateAt t harvest n) k in
+at-most-wanted d zero k h = let first = filled-get (λ i. jobOf (d .table) i .wanted) 0 mostJobs (d .table .count) k h in omega arith
+at-most-wanted d (suc n) k h =
+    let before = at-most-wanted d n k h in
+    let falls = left-falls d (stateAt d n) k in
     omega arith
 
-module _ (t : Table) (harvest : List ℕ) (good : GoodTable t harvest) (even : EvenDay t harvest) where
+module _ (d : Day) (good : GoodDay d) (even : EvenDay d) where
   -- ---- what slot n does, where every job with its deadline up to n is done
 
-  module _ (n : ℕ) (in-day : n < t .slots) (done : workLeft t (stateAt t harvest n) n ≡ 0) where
+  module _ (n : ℕ) (in-day : n < d .table .slots) (done : workLeft d (stateAt d n) n ≡ 0) where
     abbrev s : State
-    s = stateAt t harvest n
+    s = stateAt d n
 
     -- the numbers at slot n, for those of its state
     slot-is : s .slot ≡ n
-    slot-is = state-slot t harvest n
+    slot-is = state-slot d n
 
-    hand : atHand harvest s ≡ s .level + harvestAt harvest n
-    hand = ap (λ (m : ℕ). s .level + harvestAt harvest m) slot-is
+    hand : atHand d s ≡ s .level + harvestAt (d .harvest) n
+    hand = ap (λ (m : ℕ). s .level + harvestAt (d .harvest) m) slot-is
 
-    past-done : workLeft t s (s .slot) ≡ 0
-    past-done = ap (workLeft t s) slot-is ∙ done
+    past-done : workLeft d s (s .slot) ≡ 0
+    past-done = ap (workLeft d s) slot-is ∙ done
 
     -- nothing ready up to `end`: the work up to there is the demand from the next slot on
-    later : (end : ℕ) → NoneReady t s end → workLeft t s end ≤ timeDemand t (n + 1) end
+    later : (end : ℕ) → NoneReady d s end → workLeft d s end ≤ demandOf Time d (n + 1) end
     later end none-ready =
-        let most = all-later t s past-done (at-most-wanted t harvest n) end none-ready in
-        let from = ap (λ (m : ℕ). timeDemand t (m + 1) end) slot-is in
+        let most = all-later d s past-done (at-most-wanted d n) end none-ready in
+        let from = ap (λ (m : ℕ). demandOf Time d (m + 1) end) slot-is in
         omega arith
 
     -- an idle slot
-    rests : (rule : ℕ) → decided t harvest s ≡ idle rule → Rests (numbersOf t harvest) n
+    rests : (rule : ℕ) → decided d s ≡ idle rule → Rests (numbersOf d) n
     rests rule e =
         record {
-          work-stays = λ end. ap (λ (x : State). workLeft t x end) (state-next t harvest n) ∙ idle-work t harvest s rule e end;
-          level-after = ap (λ (x : State). x .level) (state-next t harvest n) ∙ idle-level t harvest s rule e ∙ ap (min (t .capacity)) hand;
+          work-stays = λ end. ap (λ (x : State). workLeft d x end) (state-next d n) ∙ idle-work d s rule e end;
+          level-after = ap (λ (x : State). x .level) (state-next d n) ∙ idle-level d s rule e ∙ ap (min (d .table .capacity)) hand;
         }
 
     -- busy with the chosen job, which has the smallest deadline of those that are ready
-    module _ (k : ℕ) (w : chosen t s ≡ job k) (costs : 1 ≤ atHand harvest s) where
-      none-before : (end : ℕ) → end < deadlineOf t k → NoneReady t s end
+    module _ (k : ℕ) (w : chosen d s ≡ Job k) (costs : 1 ≤ atHand d s) where
+      none-before : (end : ℕ) → end < deadlineOf d k → NoneReady d s end
       none-before end h i l m =
           ⊎-elim
-          (λ e. let smallest = chosen-is t s k w .smallest i l e in absurd (omega arith))
+          (λ e. let smallest = chosen-is d s k w .smallest i l e in absurd (omega arith))
           (λ e. e)
-          (either (ready t s i))
+          (either (ready d s i))
 
-      serves : (rule : ℕ) → decided t harvest s ≡ busy rule k → Serves (numbersOf t harvest) n (deadlineOf t k)
+      serves : (rule : ℕ) → decided d s ≡ busy rule k → Serves (numbersOf d) n (deadlineOf d k)
       serves rule e =
           record {
-            serves = λ end h. ap (λ (x : State). workLeft t x end + 1) (state-next t harvest n) ∙ busy-serves t harvest s rule k e end h;
-            work-stays = λ end h. ap (λ (x : State). workLeft t x end) (state-next t harvest n) ∙ busy-stays t harvest s rule k e end h;
+            serves = λ end h. ap (λ (x : State). workLeft d x end + 1) (state-next d n) ∙ busy-serves d s rule k e end h;
+            work-stays = λ end h. ap (λ (x : State). workLeft d x end) (state-next d n) ∙ busy-stays d s rule k e end h;
             all-later = λ end h. later end (none-before end h);
             is-paid = let same = hand in omega arith;
             level-after =
-                ap (λ (x : State). x .level) (state-next t harvest n)
-                ∙ busy-level t harvest s rule k e (even .costs-one k (chosen-is t s k w .below))
-                ∙ ap (λ (c : ℕ). min (t .capacity) (c - 1)) hand;
+                ap (λ (x : State). x .level) (state-next d n)
+                ∙ busy-level d s rule k e (even .costs-one k (chosen-is d s k w .below))
+                ∙ ap (λ (c : ℕ). min (d .table .capacity) (c - 1)) hand;
           }
 
       -- ground `noslack`
-      tight : zeroOrLess (slackTime t s) ≡ true → Ground (numbersOf t harvest) n (deadlineOf t k)
+      tight : zeroOrLess (slackTime d s) ≡ true → Ground (numbersOf d) n (deadlineOf d k)
       tight e =
-          let full-up = no-slack-left t s e in
+          let full-up = no-slack-left d s e in
           let i : ℕ = full-up .0 in
           let ahead = full-up .2 in
           let fills = full-up .3 in
           let slot = slot-is in
-          noslack (deadlineOf t i) (omega arith) (good .good-jobs i (full-up .1) .in-day) (omega arith)
+          noslack (deadlineOf d i) (omega arith) (good .good-jobs i (full-up .1) .in-day) (omega arith)
 
       -- ground `free`
-      slack : isBelow (slackEnergy t harvest s (deadlineOf t k)) 1 ≡ false → Ground (numbersOf t harvest) n (deadlineOf t k)
+      slack : isBelow (slackEnergy d s (deadlineOf d k)) 1 ≡ false → Ground (numbersOf d) n (deadlineOf d k)
       slack e =
           free
           (λ end h.
-          let from = ap (λ (m : ℕ). harvestOf harvest m end) slot-is in
+          let from = ap (λ (m : ℕ). harvestOf (d .harvest) m end) slot-is in
           ⊎-elim inl (λ more. inr (omega arith))
-          (energy-left t s past-done (at-most-wanted t harvest n) harvest (deadlineOf t k) e (even .costs-one) none-before end h))
+          (energy-left d s past-done (at-most-wanted d n) (deadlineOf d k) e (even .costs-one) none-before end h))
 
     -- rules 2 to 6, for the chosen job
-    by-rules : (k : ℕ) → chosen t s ≡ job k → Did (numbersOf t harvest) n
+    by-rules : (k : ℕ) → chosen d s ≡ Job k → Did (numbersOf d) n
     unfolding decided
     by-rules k w =
-        let rule : decided t harvest s ≡ ruleFor t harvest s k = ap (ruleOn t harvest s) w in
-        let one : jobOf t k .energy ≡ 1 = even .costs-one k (chosen-is t s k w .below) in
+        let rule : decided d s ≡ ruleFor d s k = ap (ruleOn d s) w in
+        let one : jobOf (d .table) k .energy ≡ 1 = even .costs-one k (chosen-is d s k w .below) in
         let same = hand in
         let slot = slot-is in
         ⊎-elim
         (λ a.
-        let low : atHand harvest s < jobOf t k .energy = ltb-true _ _ a in
-        empty (rests 2 (rule ∙ rule-2 t harvest s k low)) (omega arith))
+        let low : atHand d s < jobOf (d .table) k .energy = ltb-true _ _ a in
+        empty (rests 2 (rule ∙ rule-2 d s k low)) (omega arith))
         (λ a.
-        let paid : jobOf t k .energy ≤ atHand harvest s = ltb-false _ _ a in
+        let paid : jobOf (d .table) k .energy ≤ atHand d s = ltb-false _ _ a in
         ⊎-elim
         (λ b.
-        let spills : t .capacity < atHand harvest s = ltb-true _ _ b in
-        EvenNumbers.busy (deadlineOf t k) (serves k w (omega arith) 3 (rule ∙ rule-3 t harvest s k paid spills)) (full (omega arith)))
+        let spills : d .table .capacity < atHand d s = ltb-true _ _ b in
+        EvenNumbers.busy (deadlineOf d k) (serves k w (omega arith) 3 (rule ∙ rule-3 d s k paid spills)) (full (omega arith)))
         (λ b.
-        let fits : atHand harvest s ≤ t .capacity = ltb-false _ _ b in
+        let fits : atHand d s ≤ d .table .capacity = ltb-false _ _ b in
         ⊎-elim
-        (λ c. EvenNumbers.busy (deadlineOf t k) (serves k w (omega arith) 4 (rule ∙ rule-4 t harvest s k paid fits c)) (tight k w (omega arith) c))
+        (λ c. EvenNumbers.busy (deadlineOf d k) (serves k w (omega arith) 4 (rule ∙ rule-4 d s k paid fits c)) (tight k w (omega arith) c))
         (λ c.
         ⊎-elim
-        (λ d.
-        saving (rests 5 (rule ∙ rule-5 t harvest s k paid fits c d)) (omega arith)
-        (λ end h l. let left = slack-left t s past-done (at-most-wanted t harvest n) c end (omega arith) in omega arith))
-        (λ d.
-        EvenNumbers.busy (deadlineOf t k) (serves k w (omega arith) 6 (rule ∙ rule-6 t harvest s k paid fits c d))
-        (slack k w (omega arith) (ap (isBelow (slackEnergy t harvest s (deadlineOf t k))) (sym one) ∙ d)))
-        (either (isBelow (slackEnergy t harvest s (deadlineOf t k)) (jobOf t k .energy))))
-        (either (zeroOrLess (slackTime t s))))
-        (either (ltb (t .capacity) (atHand harvest s))))
-        (either (ltb (atHand harvest s) (jobOf t k .energy)))
+        (λ f.
+        saving (rests 5 (rule ∙ rule-5 d s k paid fits c f)) (omega arith)
+        (λ end h l. let left = slack-left d s past-done (at-most-wanted d n) c end (omega arith) in omega arith))
+        (λ f.
+        EvenNumbers.busy (deadlineOf d k) (serves k w (omega arith) 6 (rule ∙ rule-6 d s k paid fits c f))
+        (slack k w (omega arith) (ap (isBelow (slackEnergy d s (deadlineOf d k))) (sym one) ∙ f)))
+        (either (isBelow (slackEnergy d s (deadlineOf d k)) (jobOf (d .table) k .energy))))
+        (either (zeroOrLess (slackTime d s))))
+        (either (ltb (d .table .capacity) (atHand d s))))
+        (either (ltb (atHand d s) (jobOf (d .table) k .energy)))
 
     -- every slot, by its rule
-    did : Did (numbersOf t harvest) n
+    did : Did (numbersOf d) n
     unfolding decided
-    did = go (chosen t s) refl
+    did = go (chosen d s) refl
       where
-        go : (c : Choice) → chosen t s ≡ c → Did (numbersOf t harvest) n
-        go nobody w = none (rests 1 (ap (ruleOn t harvest s) w)) (λ end. later end (λ k h l. nobody-ready t s .0 w k h))
-        go (job k) w = by-rules k w
+        go : (c : Choice) → chosen d s ≡ c → Did (numbersOf d) n
+        go Nobody w = none (rests 1 (ap (ruleOn d s) w)) (λ end. later end (λ k h l. nobody-ready d s .0 w k h))
+        go (Job k) w = by-rules k w
 
   -- ---- demand, harvest and the work at first
 
   -- a busy slot costs 1, so energy demand is time demand
-  same-demand : (from to : ℕ) → energyDemand t from to ≡ timeDemand t from to
-  unfolding timeDemand energyDemand
+  same-demand : (from to : ℕ) → demandOf Energy d from to ≡ demandOf Time d from to
+  unfolding demandOf
   same-demand from to =
-      total-same _ _ (t .count)
+      total-same _ _ (d .table .count)
       (λ k h.
-      let cost : jobOf t k .wanted * jobOf t k .energy ≡ jobOf t k .wanted = ap (λ (e : ℕ). jobOf t k .wanted * e) (even .costs-one k h) ∙ omega arith in
-      ap (λ (x : ℕ). cond (within from to (jobOf t k)) x 0) cost)
+      let cost : costOf (jobOf (d .table) k) ≡ jobOf (d .table) k .wanted = ap (λ (e : ℕ). jobOf (d .table) k .wanted * e) (even .costs-one k h) ∙ omega arith in
+      ap (λ (x : ℕ). cond (within from to (jobOf (d .table) k)) x 0) cost)
 
   -- a stretch of slots harvests at most 1 each
-  harvest-at-most : (from to : ℕ) → from ≤ to → to ≤ t .slots → from + harvestOf harvest from to ≤ to
+  harvest-at-most : (from to : ℕ) → from ≤ to → to ≤ d .table .slots → from + harvestOf (d .harvest) from to ≤ to
   unfolding harvestOf
   harvest-at-most from to h l =
-      let most = total-bound (λ i. harvestAt harvest (from + i)) 1 (to - from) (λ i j. even .harvests-at-most-one (from + i) (omega arith)) in
+      let most = total-bound (λ i. harvestAt (d .harvest) (from + i)) 1 (to - from) (λ i j. even .harvests-at-most-one (from + i) (omega arith)) in
       omega arith
 
   -- at first every job wants all its slots
-  wanted-first : (end : ℕ) → workLeft t (stateAt t harvest 0) end ≤ timeDemand t 0 end
-  unfolding workLeft timeDemand
+  wanted-first : (end : ℕ) → workLeft d (stateAt d 0) end ≤ demandOf Time d 0 end
+  unfolding workLeft demandOf
   wanted-first end =
-      sum-at-most (upTo t end) (λ k. within 0 end (jobOf t k)) (leftOf (stateAt t harvest 0)) (λ k. jobOf t k .wanted) (t .count)
-      (λ k h p l. (and-true _ _ (le-leb 0 (jobOf t k .release) (omega arith)) p, at-most-wanted t harvest 0 k h))
+      sum-at-most (upTo d end) (λ k. within 0 end (jobOf (d .table) k)) (leftOf (stateAt d 0)) (λ k. jobOf (d .table) k .wanted) (d .table .count)
+      (λ k h p l. (and-true _ _ (le-leb 0 (jobOf (d .table) k .release) (omega arith)) p, at-most-wanted d 0 k h))
 
   -- ---- no interval is overloaded
 
-  module _ (clear : (kind : Kind) (from to : ℕ) → from < to → to ≤ t .slots → Overloaded kind t harvest from to → ⊥) where
+  module _ (clear : (kind : Kind) (from to : ℕ) → from < to → to ≤ d .table .slots → Overloaded kind d from to → ⊥) where
     -- nor is one without slots
-    not-over : (kind : Kind) (from to : ℕ) → from ≤ to → to ≤ t .slots → Overloaded kind t harvest from to → ⊥
+    not-over : (kind : Kind) (from to : ℕ) → from ≤ to → to ≤ d .table .slots → Overloaded kind d from to → ⊥
     not-over kind from to h l over =
         elim (decLt from to) [
           | yes i ↦ clear kind from to i l over
           | no i ↦
               let end : from ≡ to = omega arith in
-              not-empty t harvest good kind to (subst (λ (n : ℕ). Overloaded kind t harvest n to) end over)
+              not-empty d good kind to (subst (λ (n : ℕ). Overloaded kind d n to) end over)
         ]
 
-    time-fits : (from to : ℕ) → from ≤ to → to ≤ t .slots → from + timeDemand t from to ≤ to
-    time-fits from to h l = elim (decLe (from + timeDemand t from to) to) [ yes i ↦ i | no i ↦ absurd (not-over Time from to h l (omega arith)) ]
+    time-fits : (from to : ℕ) → from ≤ to → to ≤ d .table .slots → from + demandOf Time d from to ≤ to
+    time-fits from to h l = elim (decLe (from + demandOf Time d from to) to) [ yes i ↦ i | no i ↦ absurd (not-over Time from to h l (omega arith)) ]
 
-    energy-fits : (from to : ℕ) → from ≤ to → to ≤ t .slots → timeDemand t from to ≤ t .capacity + harvestOf harvest from to
-    unfolding energySupply
+    energy-fits : (from to : ℕ) → from ≤ to → to ≤ d .table .slots → demandOf Time d from to ≤ d .table .capacity + harvestOf (d .harvest) from to
     energy-fits from to h l =
         let same = same-demand from to in
-        elim (decLe (timeDemand t from to) (t .capacity + harvestOf harvest from to)) [
+        elim (decLe (demandOf Time d from to) (d .table .capacity + harvestOf (d .harvest) from to)) [
           | yes i ↦ i
           | no i ↦ absurd (not-over Energy from to h l (omega arith))
         ]
 
     -- The work at first can be paid: the level starts at capacity. Nothing else is asked of the starting level.
-    paid-first : (stateAt t harvest 0 .level ≤ t .capacity)
-        × ((end : ℕ) → end ≤ t .slots → workLeft t (stateAt t harvest 0) end ≤ stateAt t harvest 0 .level + harvestOf harvest 0 end)
+    paid-first : (stateAt d 0 .level ≤ d .table .capacity)
+        × ((end : ℕ) → end ≤ d .table .slots → workLeft d (stateAt d 0) end ≤ stateAt d 0 .level + harvestOf (d .harvest) 0 end)
     unfolding firstState
     paid-first =
-        let start : stateAt t harvest 0 .level ≡ t .capacity = ap (λ (x : State). x .level) (state-first t harvest) in (
+        let start : stateAt d 0 .level ≡ d .table .capacity = ap (λ (x : State). x .level) (state-first d) in (
           omega arith,
           (λ end l. let wanted = wanted-first end in let fits = energy-fits 0 end (omega arith) l in omega arith),
         )
 
-    is-even-run : IsEvenRun (numbersOf t harvest)
+    is-even-run : IsEvenRun (numbersOf d)
     is-even-run =
         record {
           wanted-first = wanted-first;
@@ -317,17 +310,17 @@ module _ (t : Table) (harvest : List ℕ) (good : GoodTable t harvest) (even : E
           time-fits = time-fits;
           energy-fits = energy-fits;
           comes-at-most-one = even .harvests-at-most-one;
-          harvest-first = harvest-from harvest;
+          harvest-first = harvest-from (d .harvest);
           harvest-at-most = harvest-at-most;
           did = did;
         }
 
 -- On an even day with no overloaded interval, the run leaves no job unfinished.
-pub even-run-finishes : (t : Table) (harvest : List ℕ) → GoodTable t harvest → EvenDay t harvest
-    → ((kind : Kind) (from to : ℕ) → from < to → to ≤ t .slots → Overloaded kind t harvest from to → ⊥)
-    → (k : ℕ) → k < t .count → leftOf (stateAt t harvest (t .slots)) k ≡ 0
-even-run-finishes t harvest good even clear k h =
-    let done : workLeft t (stateAt t harvest (t .slots)) (t .slots) ≡ 0 =
-    done-in-time (numbersOf t harvest) (is-even-run t harvest good even clear) (t .slots) (omega arith) in
-    let part = left-at-most t (stateAt t harvest (t .slots)) (t .slots) k h (good .good-jobs k h .in-day) in
+pub even-run-finishes : (d : Day) → GoodDay d → EvenDay d
+    → ((kind : Kind) (from to : ℕ) → from < to → to ≤ d .table .slots → Overloaded kind d from to → ⊥)
+    → (k : ℕ) → k < d .table .count → leftOf (stateAt d (d .table .slots)) k ≡ 0
+even-run-finishes d good even clear k h =
+    let done : workLeft d (stateAt d (d .table .slots)) (d .table .slots) ≡ 0 =
+    done-in-time (numbersOf d) (is-even-run d good even clear) (d .table .slots) (omega arith) in
+    let part = left-at-most d (stateAt d (d .table .slots)) (d .table .slots) k h (good .good-jobs k h .in-day) in
     omega arith

@@ -4,6 +4,8 @@ pub mod EvenNumbers
 pub mod EvenRun
 pub mod EvenWork
 pub mod Evenness
+pub mod MetDays
 pub mod NoBoth
+pub mod RoundTrips
 pub mod RunPlan
 pub mod Theorems

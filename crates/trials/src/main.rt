@@ -33,12 +33,6 @@ const START_FROM: usize = 8;
 
 const END_FROM: usize = 16;
 
-// The refusals that are not the sheet's and not the judge's: of a plan buffer, and of the room for a
-// sheet.
-const WRONG_PLAN: u8 = 7;
-
-const NO_ROOM: u8 = 8;
-
 // `sheet::check`.
 fn check(payload: &[u8], out: &mut [u8]) -> usize {
     let end = lines::word(out, 0, b"check ");
@@ -77,7 +71,7 @@ fn written(out: &mut [u8], at: usize, answer: Written) -> usize {
     match answer {
         Written::Length(length) => lines::named(out, at, b"length ", length as u64),
         Written::Refused(why) => lines::refusal(out, at, why),
-        Written::NoRoom => lines::refused(out, at, NO_ROOM),
+        Written::NoRoom => lines::refused(out, at, writer::NO_ROOM),
     }
 }
 
@@ -150,7 +144,7 @@ fn step(payload: &[u8], out: &mut [u8]) -> usize {
 fn planned(out: &mut [u8], at: usize, answer: Planned) -> usize {
     match answer {
         Planned::Refused(why) => lines::refusal(out, at, why),
-        Planned::WrongPlan => lines::refused(out, at, WRONG_PLAN),
+        Planned::WrongPlan => lines::refused(out, at, planner::WRONG_PLAN),
         Planned::Overloaded(o) => lines::interval(out, at, o),
         Planned::Met => lines::word(out, at, b"met"),
         Planned::Undecided(k) => lines::named(out, at, b"undecided job ", k as u64),

@@ -1,74 +1,71 @@
--- What the promise settles: for any table, harvest and buffer it leaves one answer and one buffer.
+-- The theorems on the writer that are worth quoting, of any answer and buffer that its promise allows. (The round trips stand in the crate `theorems`.)
 use Prim.Native.Nat.{ℕ, _<_}
-use mathlib.Core.Path.{_≡_, refl, sym, ap, _∙_}
-use mathlib.Core.List.{List}
-use mathlib.Core.Bool.{Bool, true, false}
-use mathlib.Core.Logic.{_↔_, Iff·trans, Iff·and}
-use lib.Dec.{eqb, ltb, lit<}
-use lib.ListN.{length}
+use mathlib.Core.Path.{_≡_, refl, sym, ap, _∙_, subst}
+use mathlib.Core.List.{List, _++_}
+use mathlib.Core.Logic.{_↔_, Iff·trans}
+use lib.Dec.{ltb}
+use lib.ListN.{length, drop}
 use borrow.Author.Tests.{ltb-true, lt-ltb}
-use Rattle.sheet.specs.Sheet.{sheetLength, writeSays}
-use Rattle.sheet.specs.Table.{tableFaults}
-use Rattle.sheet.specs.WellFormed.{GoodTable, tableStates, GivenFirst}
-use Rattle.sheet.specs.Refusals.{refusalSays}
-use Rattle.sheet.specs.declared.Refusal.{Refusal}
-use Rattle.sheet.proofs.Exactly.{own-refusal-exactly, own-no-refusal}
-use Rattle.sheet.proofs.Theorems.{table-accepted-exactly, call-on-table-refused-exactly}
+use Rattle.sheet.specs.HandedIn.{HandedIn, dayIn, Sound, states}
 use Rattle.sheet.specs.Paper.{Paper, gives, refuses, refusesAt}
-use Rattle.sheet.specs.declared.Refusal.the-variants.{Short, Mark, Counts, Layout, Window, Work}
-use Rattle.sheet.specs.declared.Table.{Table}
+use Rattle.sheet.specs.Refusals.{refusalSays}
+use Rattle.sheet.specs.Sheet.{sheetBytes}
+use Rattle.sheet.specs.WellFormed.{GivenFirst}
+use Rattle.sheet.specs.declared.Refusal.{Refusal}
+use Rattle.sheet.proofs.HandedIn.{handed-on-exactly, asked-exactly}
+use Rattle.sheet.proofs.Order.{Refuses, where-refused}
+use Rattle.sheet.proofs.Refusals.{byRefusal, by-refusal, refusal-refuses, sheetHas, own-given, own-else}
+use Rattle.sheet.proofs.Stated.{with-place}
+use Rattle.writer.specs.Promise.{noRoom, lengthFor, writeSays, bufferWritten, writtenSays, Writes}
 use Rattle.writer.specs.declared.Written.{Written}
 use Rattle.writer.specs.declared.Written.the-variants.{Length, Refused, NoRoom}
-use Rattle.writer.specs.Promise.{writtenSays, Writes}
 
--- `pick b x y`: x where b holds, y otherwise
-abbrev pick : Bool → Written → Written → Written
-pick true this that = this
-pick false this that = that
+-- ---- any two results that the promise allows are equal: the answer, and every byte of the buffer
 
--- the answer that the paper's number and place stand for
-abbrev writtenMeant : Paper ℕ → Written
-writtenMeant (gives n) = Length n
-writtenMeant (refuses n) =
-    pick (eqb n 1) (Refused Short)
-    (pick (eqb n 2) (Refused Mark)
-    (pick (eqb n 3) (Refused Counts)
-    (pick (eqb n 4) (Refused Layout) NoRoom)))
-writtenMeant (refusesAt n k) = pick (eqb n 5) (Refused (Window k)) (Refused (Work k))
+ownMeant : Paper ℕ → Written
+ownMeant (gives n) = Length n
+ownMeant (refuses n) = NoRoom
+ownMeant (refusesAt n k) = NoRoom
 
-written-meant : (r : Written) → writtenMeant (writtenSays r) ≡ r
-written-meant (Length n) = refl
-written-meant (Refused Short) = refl
-written-meant (Refused Mark) = refl
-written-meant (Refused Counts) = refl
-written-meant (Refused Layout) = refl
-written-meant (Refused (Window k)) = refl
-written-meant (Refused (Work k)) = refl
-written-meant NoRoom = refl
+says-one-answer : (r q : Written) → writtenSays r ≡ writtenSays q → r ≡ q
+unfolding byRefusal ownMeant
+says-one-answer r q e = sym (meant r) ∙ ap (λ (a : Paper ℕ). byRefusal Refused (ownMeant a) a) e ∙ meant q
+  where
+    meant : (w : Written) → byRefusal Refused (ownMeant (writtenSays w)) (writtenSays w) ≡ w
+    meant (Length n) = refl
+    meant (Refused why) = by-refusal ℕ Refused _ why
+    meant NoRoom = refl
 
--- two answers that the paper writes alike are the same
-pub says-one-answer : (r r' : Written) → writtenSays r ≡ writtenSays r' → r ≡ r'
-says-one-answer r r' e = sym (written-meant r) ∙ ap writtenMeant e ∙ written-meant r'
+pub one-result : {h : HandedIn} {out after after′ : List ℕ} {r q : Written} → Writes h out r after → Writes h out q after′ → (r ≡ q) × (after ≡ after′)
+one-result {r = r} {q = q} a b = (says-one-answer r q (a .answer ∙ sym (b .answer)), a .buffer ∙ sym (b .buffer))
 
--- any two results that the promise allows are equal: the answer, and every byte of the buffer
-pub one-result : {t : Table} {harvest out after after' : List ℕ} {r r' : Written}
-    → Writes t harvest out r after
-    → Writes t harvest out r' after'
-    → (r ≡ r') × (after ≡ after')
-one-result {r = r} {r' = r'} w w' = (says-one-answer r r' (w .answer ∙ sym (w' .answer)), w .buffer ∙ sym (w' .buffer))
+module _ (h : HandedIn) (out : List ℕ) (r : Written) (after : List ℕ) (wrote : Writes h out r after) where
+  as-said : (q : Written) → (r ≡ q) ↔ (writeSays h out ≡ writtenSays q)
+  as-said q = ((λ e. sym (wrote .answer) ∙ ap writtenSays e), (λ e. says-one-answer r q (wrote .answer ∙ e)))
 
--- 8 is given exactly when the table and the harvest are well formed and the buffer is shorter than the sheet
-pub no-room-exactly : (t : Table) (harvest out : List ℕ)
-    → (writeSays t harvest out ≡ refuses 8) ↔ (GoodTable t harvest × (length out < sheetLength (t .count) (t .slots)))
-unfolding writeSays
-no-room-exactly t harvest out =
-    Iff·trans
-    (own-refusal-exactly (tableFaults t harvest) 8 (ltb (length out) (sheetLength (t .count) (t .slots))) (sheetLength (t .count) (t .slots)) (lit< tt))
-    (Iff·and (table-accepted-exactly t harvest) (ltb-true _ _, lt-ltb _ _))
+  -- 3 to 6 are given exactly when each is stated and nothing earlier applies
+  pub write-refused-exactly : (why : Refusal) → (r ≡ Refused why) ↔ GivenFirst (states h) why
+  unfolding writeSays sheetHas
+  write-refused-exactly why =
+      Iff·trans (as-said (Refused why)) (handed-on-exactly h _ (own-else noRoom (ltb (length out) (lengthFor (dayIn h))) _ refl (own-given _)) why)
 
--- 3 to 6 are given exactly when each is stated and nothing earlier applies
-pub write-refused-exactly : (t : Table) (harvest out : List ℕ) (r : Refusal) → (writeSays t harvest out ≡ refusalSays r) ↔ GivenFirst (tableStates t harvest) r
-unfolding writeSays
-write-refused-exactly t harvest out r =
-    call-on-table-refused-exactly t harvest _ r
-    (own-no-refusal 8 (ltb (length out) (sheetLength (t .count) (t .slots))) (sheetLength (t .count) (t .slots)) (lit< tt))
+  -- 8 is given exactly when the table and the harvest are well formed and the buffer is shorter than the sheet
+  pub no-room-exactly : (r ≡ NoRoom) ↔ (Sound h × (length out < lengthFor (dayIn h)))
+  unfolding writeSays sheetHas
+  no-room-exactly =
+      Iff·trans (as-said NoRoom)
+      (Iff·trans (asked-exactly h _ (ltb (length out) (lengthFor (dayIn h))) (gives (lengthFor (dayIn h))) refl (λ e. subst Refuses (sym e) tt))
+      (with-place (ltb-true _ _, lt-ltb _ _)))
+
+  -- After a refusal every byte of the buffer is what it was.
+  left-as-it-was : Refuses (writtenSays r) → after ≡ out
+  unfolding bufferWritten
+  left-as-it-was refused =
+      wrote .buffer
+      ∙ where-refused (writeSays h out) (sheetBytes (dayIn h .table) (dayIn h .harvest) ++ drop (lengthFor (dayIn h)) out) out (subst Refuses (wrote .answer) refused)
+
+  pub refused-write-leaves-the-buffer : (why : Refusal) → r ≡ Refused why → after ≡ out
+  refused-write-leaves-the-buffer why e = left-as-it-was (rw e (refusal-refuses ℕ why))
+
+  pub no-room-leaves-the-buffer : r ≡ NoRoom → after ≡ out
+  no-room-leaves-the-buffer e = left-as-it-was (rw e tt)

@@ -6,6 +6,7 @@ ghost use mathlib.Core.Path.{_≡_};
 ghost use mathlib.Core.List.{[], _∷_};
 ghost use Prim.Native.Nat.{_+_, _*_, _≤_};
 ghost use lib.ListN.{length};
+ghost use Rattle.sheet.specs.HandedIn.{onTable};
 ghost use Rattle.sheet.specs.Lists.{joined};
 ghost use Rattle.sheet.specs.Table.{mostJobs, mostSlots, jobOf};
 ghost use Rattle.sheet.specs.Sheet.{u16, recordBytes, recordLength, trailerBytes, trailerLength, sheetBytes, sheetLength};
@@ -21,6 +22,9 @@ pub enum Written {
     // 8: the buffer is too short for the sheet.
     NoRoom,
 }
+
+// The number in document 01 of the refusal `NoRoom`.
+pub const NO_ROOM: u8 = 8;
 
 // Puts two bytes at a place that has room for them.
 fn put_pair(out: &mut [u8], at: usize, first: u8, second: u8)
@@ -124,7 +128,7 @@ fn put_sheet(out: &mut [u8], end: usize, t: Table, harvest: &[u8])
 // bytes, then by record 5 and 6, then 8 where the buffer is too short; after a refusal every byte of
 // the buffer is what it was. It looks at no place of the table beyond its last job.
 pub fn write(t: Table, harvest: &[u8], out: &mut [u8]) -> Written
-    ensures { λ r. ⌜ Writes t (now (harvest .entry)) (now (out .entry)) r (now (out .exit)) ⌝ }
+    ensures { λ r. ⌜ Writes (onTable t (now (harvest .entry))) (now (out .entry)) r (now (out .exit)) ⌝ }
 {
     let answer = sheet::check(t, harvest);
     if let Outcome::Refused(refusal) = answer {

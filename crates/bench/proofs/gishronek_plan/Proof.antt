@@ -3,28 +3,23 @@ use Prim.Native.Nat.{ℕ}
 use mathlib.Core.Path.{_≡_, ap, _∙_}
 use mathlib.Core.List.{List}
 use borrow.Author.Needs.{needs}
-use Rattle.planner.specs.Promise.{plannedSays, PlansSheet}
+use Rattle.sheet.specs.HandedIn.{onSheet}
+use Rattle.planner.specs.Promise.{plannedSays, Plans}
 use Rattle.planner.specs.declared.Planned.{Planned}
-use Rattle.bench.specs.Promise.{planNumber, Plans}
+use Rattle.bench.specs.Promise.{numbered, verdictNumber, refusedNumber, PlansSheet}
 use Rattle.bench.proofs.Numbers.{undecided-few}
 use Rattle.bench.proofs.gishronek_plan.Statement.{statement}
 use Rattle.bench.proofs.gishronek_plan.Tie as tie
 
-numbered : (s plan : List ℕ) (p : Planned) (r : ℕ) (after : List ℕ) → PlansSheet s plan p after → r ≡ planNumber (plannedSays p) → Plans s plan r after
-numbered s plan p r after plans said = record { answer = said ∙ ap planNumber (plans .answer); buffer = plans .buffer }
-
-plan-sheet-requires : tie.Need-plan-sheet-requires
-plan-sheet-requires c κs = search needs
+as-one : (s plan : List ℕ) (p : Planned) (r : ℕ) (after : List ℕ) → Plans (onSheet s) plan p after → r ≡ numbered verdictNumber refusedNumber (plannedSays p) → PlansSheet s plan r after
+as-one s plan p r after plans said = record { answer = said ∙ ap (numbered verdictNumber refusedNumber) (plans .answer); buffer = plans .buffer }
 
 plan-number-requires : tie.Need-plan-number-requires
 plan-number-requires c κs = search undecided-few
 
-same-length : tie.Need-same-length
-same-length c = search needs
-
 returns : tie.Need-returns
-returns c = search numbered
+returns c = search as-one
 
 pub gishronek-plan-spec : {M : Type 1} → statement M
 gishronek-plan-spec =
-    tie.close (tie.spec plan-sheet-requires plan-number-requires same-length returns)
+    tie.close (tie.spec (λ c κs. search needs) plan-number-requires (λ c. search needs) returns)

@@ -6,12 +6,6 @@ use borrow.Author.Needs.{needs}
 use Rattle.bench.proofs.kind_part.Statement.{statement}
 use Rattle.bench.proofs.kind_part.Tie as tie
 
-enum-told : tie.Need-enum-told
-enum-told c = search needs
-
-enum-told-2 : tie.Need-enum-told-2
-enum-told-2 c = search needs
-
 returns : tie.Need-returns
 returns c = (kind-told _ _ 1 (c .enum-told .given .1) refl, omega arith)
 
@@ -19,4 +13,4 @@ returns-2 : tie.Need-returns-2
 returns-2 c = (kind-told _ _ 2 (c .enum-told2 .given .1) refl, omega arith)
 
 pub kind-part-spec : {M : Type 1} → statement M
-kind-part-spec = tie.close (tie.spec enum-told enum-told-2 returns returns-2)
+kind-part-spec = tie.close (tie.spec (λ c. search needs) (λ c. search needs) returns returns-2)

@@ -1,7 +1,7 @@
 -- Each return follows the tests that led to it.
 use Rattle.sheet.proofs.Tests.{tests}
 use Rattle.judge.specs.Judge.{claimFault}
-use Rattle.judge.proofs.ClaimKinds.{is-kind, no-kind}
+use Rattle.judge.proofs.ClaimWords.{is-kind, no-kind}
 use Rattle.judge.proofs.claim_fault.Statement.{statement}
 use Rattle.judge.proofs.claim_fault.Tie as tie
 

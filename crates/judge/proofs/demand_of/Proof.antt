@@ -4,8 +4,7 @@ use mathlib.Core.Path.{_≡_, refl, sym, ap, ap₂, _∙_}
 use mathlib.Core.Bool.{Bool, true, false, cond}
 use mathlib.Core.Logic.{⊎-elim}
 use native.Mathlib.Omega.{arith}
-use Rattle.sheet.specs.InColumns.{mostCost}
-use Rattle.sheet.specs.Sums.{total}
+use Rattle.sheet.specs.Sums.{total, mostCost}
 use Rattle.sheet.proofs.Sums.{total-none, total-more}
 use Rattle.judge.proofs.Weighing.{partOf, part-read, demand-is}
 use borrow.Author.Needs.{needs}
@@ -26,39 +25,6 @@ abbrev μ-loop : tie.MeasureT-loop
 
 loop-holds : tie.Need-loop-holds Inv-loop μ-loop
 loop-holds c = (refl, search needs, sym (total-none _), search needs)
-
-mul-is-within : tie.Need-mul-is-within Inv-loop μ-loop
-mul-is-within c = search needs
-
-element-copy-out-is-within : tie.Need-element-copy-out-is-within Inv-loop μ-loop
-element-copy-out-is-within c = search needs
-
-mul-is-within-2 : tie.Need-mul-is-within-2 Inv-loop μ-loop
-mul-is-within-2 c = search needs
-
-element-copy-out-is-within-2 : tie.Need-element-copy-out-is-within-2 Inv-loop μ-loop
-element-copy-out-is-within-2 c = search needs
-
-is-within-requires : tie.Need-is-within-requires Inv-loop μ-loop
-is-within-requires c κs = search needs
-
-mul-share : tie.Need-mul-share Inv-loop μ-loop
-mul-share c = search needs
-
-element-copy-out-share : tie.Need-element-copy-out-share Inv-loop μ-loop
-element-copy-out-share c = search needs
-
-share-requires : tie.Need-share-requires Inv-loop μ-loop
-share-requires c κs = search needs
-
-add-demand : tie.Need-add-demand Inv-loop μ-loop
-add-demand c = search needs
-
-add-k : tie.Need-add-k Inv-loop μ-loop
-add-k c = search needs
-
-loop-less : tie.Need-loop-less Inv-loop μ-loop
-loop-less c = search needs
 
 loop-again : tie.Need-loop-again Inv-loop μ-loop
 loop-again c =
@@ -81,30 +47,15 @@ loop-again c =
     (c .if1 .came)
 
 returns : tie.Need-returns Inv-loop μ-loop
-returns c =
+returns c harvest =
     let args = c .before .before .args in
     let at-end : c .before .loop .k ≡ args .t1 .count = omega arith in
     c .before .loop .inv .2
     ∙ ap (total (partOf (args .kind) (args .t1) (args .from) (args .to))) at-end
-    ∙ demand-is (args .kind) (args .t1) (args .from) (args .to)
+    ∙ demand-is (args .kind) (args .t1) harvest (args .from) (args .to)
 
 pub demand-of-spec : {M : Type 1} → statement M
 demand-of-spec =
     tie.close
-    (tie.spec
-    Inv-loop
-    μ-loop
-    loop-holds
-    mul-is-within
-    element-copy-out-is-within
-    mul-is-within-2
-    element-copy-out-is-within-2
-    is-within-requires
-    mul-share
-    element-copy-out-share
-    share-requires
-    add-demand
-    add-k
-    loop-less
-    loop-again
-    returns)
+    (tie.spec Inv-loop μ-loop loop-holds (λ c. search needs) (λ c. search needs) (λ c. search needs) (λ c. search needs) (λ c κs. search needs)
+    (λ c. search needs) (λ c. search needs) (λ c κs. search needs) (λ c. search needs) (λ c. search needs) (λ c. search needs) loop-again returns)

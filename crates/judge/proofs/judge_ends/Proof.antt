@@ -1,19 +1,25 @@
 -- The loop keeps: no job before k lacks slots. The first that does is the answer.
-use Prim.Native.Nat.{_≤_, _-_}
+use Prim.Native.Nat.{ℕ, _≤_, _-_}
+use mathlib.Core.List.{List}
+use lib.Dec.{ltb}
 use mathlib.Core.Path.{_≡_, refl, sym, ap, _∙_, subst}
 use native.Mathlib.Omega.{arith}
 use mathlib.Core.Bool.{Bool}
 use lib.ListN.{getD}
 use borrow.Author.Tests.{lt-ltb, le-ltb}
-use Rattle.sheet.specs.Paper.{gives, inOrder}
+use Rattle.sheet.specs.Paper.{Check, gives, _when_, inOrder}
 use Rattle.sheet.specs.Table.{jobOf}
 use Rattle.sheet.proofs.Order.{in-order-none, in-order-clear, in-order-first, Refuses}
-use Rattle.judge.specs.Numbers.{faultSays, _applies-when_}
+use Rattle.sheet.specs.declared.Table.{Table}
+use Rattle.judge.specs.Numbers.{faultSays}
 use Rattle.judge.specs.declared.PlanFault.the-variants.{LacksSlots}
-use Rattle.judge.specs.Steps.{endBy, endsBy}
+use Rattle.judge.specs.Steps.{endsBy}
 use borrow.Author.Needs.{needs}
 use Rattle.judge.proofs.judge_ends.Statement.{statement}
 use Rattle.judge.proofs.judge_ends.Tie as tie
+
+abbrev endBy : Table → List ℕ → ℕ → Check
+endBy t got k = faultSays (LacksSlots k) when ltb (getD got k 0) (jobOf t k .wanted)
 
 abbrev Inv-loop : tie.InvT-loop
 Inv-loop got t count k₀ k = (count ≡ t .count) × (k ≤ count) × (inOrder (endBy t got) k ≡ gives tt)
@@ -24,18 +30,6 @@ abbrev μ-loop : tie.MeasureT-loop
 loop-holds : tie.Need-loop-holds Inv-loop μ-loop
 loop-holds c = (refl, search needs, in-order-none _)
 
-mul-if1 : tie.Need-mul-if1 Inv-loop μ-loop
-mul-if1 c = search needs
-
-element-copy-out-if1 : tie.Need-element-copy-out-if1 Inv-loop μ-loop
-element-copy-out-if1 c = search needs
-
-mul-if1-2 : tie.Need-mul-if1-2 Inv-loop μ-loop
-mul-if1-2 c = search needs
-
-element-copy-out-if1-2 : tie.Need-element-copy-out-if1-2 Inv-loop μ-loop
-element-copy-out-if1-2 c = search needs
-
 returns : tie.Need-returns Inv-loop μ-loop
 unfolding endsBy
 returns c =
@@ -44,14 +38,8 @@ returns c =
     let got = at-loop .before .args .got .now in
     let k = at-loop .loop .k in
     let lacks = lt-ltb (getD got k 0) (jobOf t k .wanted) (c .if1 .taken) in
-    let says : endBy t got k ≡ faultSays (LacksSlots k) = ap (λ (b : Bool). LacksSlots k applies-when b) lacks in
+    let says : endBy t got k ≡ faultSays (LacksSlots k) = ap (λ (b : Bool). faultSays (LacksSlots k) when b) lacks in
     sym (in-order-first (endBy t got) k (t .count) (c .before .before .loop-test .taken) (at-loop .loop .inv .2) (subst Refuses (sym says) tt) ∙ says)
-
-add-k : tie.Need-add-k Inv-loop μ-loop
-add-k c = search needs
-
-loop-less : tie.Need-loop-less Inv-loop μ-loop
-loop-less c = search needs
 
 loop-again : tie.Need-loop-again Inv-loop μ-loop
 loop-again c =
@@ -60,7 +48,7 @@ loop-again c =
     let got = at-loop .before .args .got .now in
     let k = at-loop .loop .k in
     let fine = le-ltb (getD got k 0) (jobOf t k .wanted) (c .if1 .left) in
-    (refl, search needs, in-order-clear (endBy t got) k (at-loop .loop .inv .2) (ap (λ (b : Bool). LacksSlots k applies-when b) fine))
+    (refl, search needs, in-order-clear (endBy t got) k (at-loop .loop .inv .2) (ap (λ (b : Bool). faultSays (LacksSlots k) when b) fine))
 
 returns-2 : tie.Need-returns-2 Inv-loop μ-loop
 unfolding endsBy
@@ -72,16 +60,5 @@ returns-2 c =
 pub judge-ends-spec : {M : Type 1} → statement M
 judge-ends-spec =
     tie.close
-    (tie.spec
-    Inv-loop
-    μ-loop
-    loop-holds
-    mul-if1
-    element-copy-out-if1
-    mul-if1-2
-    element-copy-out-if1-2
-    returns
-    add-k
-    loop-less
-    loop-again
-    returns-2)
+    (tie.spec Inv-loop μ-loop loop-holds (λ c. search needs) (λ c. search needs) (λ c. search needs) (λ c. search needs) returns (λ c. search needs)
+    (λ c. search needs) loop-again returns-2)

@@ -35,12 +35,6 @@ module _ (j : Job) (i got charge : ℕ) {may : Bool} (asked : may ≡ (leb (j .r
     unfolding jobSays
     fine h e l = rw (sym asked ∙ is, lt-leb _ _ h, ← e, le-ltb _ _ l)
 
-widened-requires : tie.Need-widened-requires
-widened-requires c κs = search needs
-
-may-run-requires : tie.Need-may-run-requires
-may-run-requires c κs = search needs
-
 returns : tie.Need-returns
 returns c = thirteen _ _ _ _ (c .before .may-run .ensures) (c .if1 .taken)
 
@@ -55,4 +49,4 @@ returns-4 c = fine _ _ _ _ (c .before .before .before .may-run .ensures) (c .bef
 
 pub judge-job-spec : {M : Type 1} → statement M
 judge-job-spec =
-    tie.close (tie.spec widened-requires may-run-requires returns returns-2 returns-3 returns-4)
+    tie.close (tie.spec (λ c κs. search needs) (λ c κs. search needs) returns returns-2 returns-3 returns-4)

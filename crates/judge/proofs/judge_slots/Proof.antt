@@ -3,14 +3,14 @@ use Prim.Native.Nat.{_≤_, _<_, _+_, _-_}
 use mathlib.Core.Path.{_≡_, refl, ap₂, _∙_}
 use native.Mathlib.Omega.{arith}
 use lib.ListN.{length, getD}
-use Rattle.sheet.specs.Table.{jobOf}
+use Rattle.sheet.specs.Table.{jobOf, dayOf}
 use Rattle.judge.proofs.Keeping.{Kept, kept-first, SlotRead, kept-idle, refused-stranger, refused-job, gets-more, is-paid, kept-busy, kept-decides}
 use borrow.Author.Needs.{needs}
 use Rattle.judge.proofs.judge_slots.Statement.{statement}
 use Rattle.judge.proofs.judge_slots.Tie as tie
 
 abbrev Inv-loop : tie.InvT-loop
-Inv-loop harvest plan t count got₀ level₀ i₀ i-end got level i = (count ≡ t .count) × (i-end ≡ length plan) × (i ≤ i-end) × Kept t harvest plan got level i
+Inv-loop harvest plan t count got₀ level₀ i₀ i-end got level i = (count ≡ t .count) × (i-end ≡ length plan) × (i ≤ i-end) × Kept (dayOf t harvest) plan got level i
 
 abbrev μ-loop : tie.MeasureT-loop
 μ-loop harvest plan t count got₀ level₀ i₀ i-end got level i = i-end - i
@@ -19,7 +19,7 @@ abbrev μ-loop : tie.MeasureT-loop
 slot-read : (c : tie.After-wide2 Inv-loop μ-loop)
     → let at-loop = c .before .before .before .before .before .before in
     let args = at-loop .before .before .before .args in
-    SlotRead (args .t1) (args .harvest .now) (args .plan .now) (at-loop .loop .level) (at-loop .loop .i) (getD (args .plan .now) (at-loop .loop .i) 0) (c .before .before .before .wide .result + c .wide2 .result)
+    SlotRead (dayOf (args .t1) (args .harvest .now)) (args .plan .now) (at-loop .loop .level) (at-loop .loop .i) (getD (args .plan .now) (at-loop .loop .i) 0) (c .before .before .before .wide .result + c .wide2 .result)
 slot-read c =
     let at-loop = c .before .before .before .before .before .before in
     let start = at-loop .before .before .before in
@@ -34,80 +34,26 @@ slot-read c =
     }
 
 loop-holds : tie.Need-loop-holds Inv-loop μ-loop
-loop-holds c = let args = c .before .before .args in (refl, refl, omega arith, kept-first (args .t1) (args .harvest .now) (args .plan .now))
-
-shared-slice-read-byte : tie.Need-shared-slice-read-byte Inv-loop μ-loop
-shared-slice-read-byte c = search needs
-
-wide-requires : tie.Need-wide-requires Inv-loop μ-loop
-wide-requires c κs = search needs
-
-shared-slice-read-counted : tie.Need-shared-slice-read-counted Inv-loop μ-loop
-shared-slice-read-counted c = search needs
-
-counted-requires : tie.Need-counted-requires Inv-loop μ-loop
-counted-requires c κs = search needs
-
-wide-requires-2 : tie.Need-wide-requires-2 Inv-loop μ-loop
-wide-requires-2 c κs = search needs
-
-add-charge : tie.Need-add-charge Inv-loop μ-loop
-add-charge c = search needs
-
-cut-requires : tie.Need-cut-requires Inv-loop μ-loop
-cut-requires c κs = search needs
-
-add-i : tie.Need-add-i Inv-loop μ-loop
-add-i c = search needs
-
-loop-less : tie.Need-loop-less Inv-loop μ-loop
-loop-less c = search needs
+loop-holds c = let args = c .before .before .args in (refl, refl, omega arith, kept-first (dayOf (args .t1) (args .harvest .now)) (args .plan .now))
 
 loop-again : tie.Need-loop-again Inv-loop μ-loop
 loop-again c =
     let read = c .before .before in
     let at-loop = read .before .before .before .before .before .before in
     let below = read .before .before .before .before .before .loop-test .taken in
-    (refl, refl, omega arith, kept-idle _ _ _ _ _ _ _ _ (at-loop .loop .inv .3) (slot-read read) _ (c .before .if1 .taken) (c .cut .ensures))
+    (refl, refl, omega arith, kept-idle _ _ _ _ _ _ _ (at-loop .loop .inv .3) (slot-read read) _ (c .before .if1 .taken) (c .cut .ensures))
 
 cast-k : tie.Need-cast-k Inv-loop μ-loop
 cast-k c = let byte = c .before .before .before .before .before .shared-slice-known3 .given (c .before .before .before .before .before .before .before .loop .i) .fits in record { fits = omega arith }
 
 returns : tie.Need-returns Inv-loop μ-loop
-returns c = let read = c .before .before in refused-stranger _ _ _ _ _ _ _ _ (read .before .before .before .before .before .before .loop .inv .3) (slot-read read) (c .before .if1 .left) (c .if2 .taken)
-
-mul-j : tie.Need-mul-j Inv-loop μ-loop
-mul-j c = search needs
-
-element-copy-out-j : tie.Need-element-copy-out-j Inv-loop μ-loop
-element-copy-out-j c = search needs
-
-mul-judge-job : tie.Need-mul-judge-job Inv-loop μ-loop
-mul-judge-job c = search needs
-
-array-read-judge-job : tie.Need-array-read-judge-job Inv-loop μ-loop
-array-read-judge-job c = search needs
-
-judge-job-requires : tie.Need-judge-job-requires Inv-loop μ-loop
-judge-job-requires c κs = search needs
-
-enum-told : tie.Need-enum-told Inv-loop μ-loop
-enum-told c = search needs
+returns c = let read = c .before .before in refused-stranger _ _ _ _ _ _ _ (read .before .before .before .before .before .before .loop .inv .3) (slot-read read) (c .before .if1 .left) (c .if2 .taken)
 
 returns-2 : tie.Need-returns-2 Inv-loop μ-loop
 returns-2 c =
     let read = c .before .before .before .before .before .before in
     let job = c .before .before in
-    refused-job _ _ _ _ _ _ _ _ (read .before .before .before .before .before .before .loop .inv .3) (slot-read read) (c .before .before .before .before .if2 .left) _ (job .judge-job .ensures) _ (c .enum-told .given .1)
-
-enum-told-2 : tie.Need-enum-told-2 Inv-loop μ-loop
-enum-told-2 c = search needs
-
-mul-got : tie.Need-mul-got Inv-loop μ-loop
-mul-got c = search needs
-
-array-read-got : tie.Need-array-read-got Inv-loop μ-loop
-array-read-got c = search needs
+    refused-job _ _ _ _ _ _ _ (read .before .before .before .before .before .before .loop .inv .3) (slot-read read) (c .before .before .before .before .if2 .left) _ (job .judge-job .ensures) _ (c .enum-told .given .1)
 
 -- a busy slot's job, where nothing is found against it
 judged : (c : tie.After-enum-told2 Inv-loop μ-loop)
@@ -122,8 +68,8 @@ judged c =
     let h = c .before .before .before .before .if2 .left in
     let said = c .before .before .judge-job .ensures in
     let nothing = c .enum-told2 .given .1 in (
-      gets-more _ _ _ _ _ _ _ _ kept (slot-read read) h _ said nothing,
-      is-paid _ _ _ _ _ _ _ _ kept (slot-read read) h _ said nothing,
+      gets-more _ _ _ _ _ _ _ kept (slot-read read) h _ said nothing,
+      is-paid _ _ _ _ _ _ _ kept (slot-read read) h _ said nothing,
     )
 
 add-got : tie.Need-add-got Inv-loop μ-loop
@@ -134,29 +80,11 @@ add-got c =
     let more = judged c .0 in
     record { fits = omega arith }
 
-mul-got-2 : tie.Need-mul-got-2 Inv-loop μ-loop
-mul-got-2 c = search needs
-
-array-write-got : tie.Need-array-write-got Inv-loop μ-loop
-array-write-got c = search needs
-
-widened-requires : tie.Need-widened-requires Inv-loop μ-loop
-widened-requires c κs = search needs
-
 sub-cut : tie.Need-sub-cut Inv-loop μ-loop
 sub-cut c =
     let price = c .widened .ensures .0 in
     let paid = judged (c .before) .1 in
     omega arith
-
-cut-requires-2 : tie.Need-cut-requires-2 Inv-loop μ-loop
-cut-requires-2 c κs = search needs
-
-add-i-2 : tie.Need-add-i-2 Inv-loop μ-loop
-add-i-2 c = search needs
-
-loop-less-2 : tie.Need-loop-less-2 Inv-loop μ-loop
-loop-less-2 c = search needs
 
 loop-again-2 : tie.Need-loop-again-2 Inv-loop μ-loop
 loop-again-2 c =
@@ -166,57 +94,22 @@ loop-again-2 c =
       refl,
       refl,
       omega arith,
-      kept-busy _ _ _ _ _ _ _ _ (read .before .before .before .before .before .before .loop .inv .3) (slot-read read) (job .before .before .before .before .if2 .left) _ (job .before .before .judge-job .ensures) (job .enum-told2 .given .1) _ _
+      kept-busy _ _ _ _ _ _ _ (read .before .before .before .before .before .before .loop .inv .3) (slot-read read) (job .before .before .before .before .if2 .left) _ (job .before .before .judge-job .ensures) (job .enum-told2 .given .1) _ _
           (c .before .widened .ensures .0) (c .cut2 .ensures),
     )
-
-judge-ends-requires : tie.Need-judge-ends-requires Inv-loop μ-loop
-judge-ends-requires c κs = search needs
 
 returns-3 : tie.Need-returns-3 Inv-loop μ-loop
 returns-3 c =
     let at-end = c .before .before in
     let fits = at-end .before .before .before .before .pre .1 in
     let at-slots : at-end .before .loop .i ≡ at-end .before .before .before .before .args .t1 .slots = omega arith in
-    c .judge-ends .ensures ∙ kept-decides _ _ _ _ _ _ (at-end .before .loop .inv .3) at-slots
+    c .judge-ends .ensures ∙ kept-decides _ _ _ _ _ (at-end .before .loop .inv .3) at-slots
 
 pub judge-slots-spec : {M : Type 1} → statement M
 judge-slots-spec =
     tie.close
-    (tie.spec
-    Inv-loop
-    μ-loop
-    loop-holds
-    shared-slice-read-byte
-    wide-requires
-    shared-slice-read-counted
-    counted-requires
-    wide-requires-2
-    add-charge
-    cut-requires
-    add-i
-    loop-less
-    loop-again
-    cast-k
-    returns
-    mul-j
-    element-copy-out-j
-    mul-judge-job
-    array-read-judge-job
-    judge-job-requires
-    enum-told
-    returns-2
-    enum-told-2
-    mul-got
-    array-read-got
-    add-got
-    mul-got-2
-    array-write-got
-    widened-requires
-    sub-cut
-    cut-requires-2
-    add-i-2
-    loop-less-2
-    loop-again-2
-    judge-ends-requires
-    returns-3)
+    (tie.spec Inv-loop μ-loop loop-holds (λ c. search needs) (λ c κs. search needs) (λ c. search needs) (λ c κs. search needs) (λ c κs. search needs)
+    (λ c. search needs) (λ c κs. search needs) (λ c. search needs) (λ c. search needs) loop-again cast-k returns (λ c. search needs) (λ c. search needs)
+    (λ c. search needs) (λ c. search needs) (λ c κs. search needs) (λ c. search needs) returns-2 (λ c. search needs) (λ c. search needs)
+    (λ c. search needs) add-got (λ c. search needs) (λ c. search needs) (λ c κs. search needs) sub-cut (λ c κs. search needs) (λ c. search needs)
+    (λ c. search needs) loop-again-2 (λ c κs. search needs) returns-3)

@@ -4,17 +4,11 @@ use borrow.Author.Needs.{needs}
 use Rattle.judge.proofs.may_run.Statement.{statement}
 use Rattle.judge.proofs.may_run.Tie as tie
 
-cast-if1 : tie.Need-cast-if1
-cast-if1 c = search needs
-
 returns : tie.Need-returns
 returns c = search tests
-
-cast-result : tie.Need-cast-result
-cast-result c = search needs
 
 returns-2 : tie.Need-returns-2
 returns-2 c = search tests
 
 pub may-run-spec : {M : Type 1} → statement M
-may-run-spec = tie.close (tie.spec cast-if1 returns cast-result returns-2)
+may-run-spec = tie.close (tie.spec (λ c. search needs) returns (λ c. search needs) returns-2)

@@ -3,14 +3,8 @@ use borrow.Author.Needs.{needs}
 use Rattle.judge_words.proofs.job_of.Statement.{statement}
 use Rattle.judge_words.proofs.job_of.Tie as tie
 
-mul-job : tie.Need-mul-job
-mul-job c = search needs
-
-element-copy-out-job : tie.Need-element-copy-out-job
-element-copy-out-job c = search needs
-
 returns : tie.Need-returns
 returns c = c .before .pre .0 .windows _ (c .before .pre .1)
 
 pub job-of-spec : {M : Type 1} → statement M
-job-of-spec = tie.close (tie.spec mul-job element-copy-out-job returns)
+job-of-spec = tie.close (tie.spec (λ c. search needs) (λ c. search needs) returns)

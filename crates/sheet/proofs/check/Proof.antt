@@ -1,21 +1,15 @@
 -- Each return follows the tests that led to it; the records' answer is that of `check_records`.
 use mathlib.Core.Path.{sym, _∙_}
 use borrow.Author.Tests.{eq-eqb, ne-eqb}
-use Rattle.sheet.specs.Table.{recordSays, recordsSay, tableSays}
+use Rattle.sheet.specs.Table.{tableSays}
 use Rattle.sheet.proofs.Words.{counts-words}
 use borrow.Author.Needs.{needs}
 use Rattle.sheet.proofs.check.Statement.{statement}
 use Rattle.sheet.proofs.check.Tie as tie
 
-counts-fault-requires : tie.Need-counts-fault-requires
-counts-fault-requires c κs = search needs
-
 returns : tie.Need-returns
 unfolding tableSays
 returns c = rw (sym (c .before .counts-fault .ensures) ∙ c .if1 .taken)
-
-cast-if2 : tie.Need-cast-if2
-cast-if2 c = search needs
 
 returns-2 : tie.Need-returns-2
 unfolding tableSays
@@ -30,7 +24,7 @@ check-records-requires c κs =
     counts-words _ _ .0 (sym (c .before .before .before .counts-fault .ensures) ∙ c .before .before .if1 .left) .0
 
 returns-3 : tie.Need-returns-3
-unfolding tableSays recordsSay recordSays
+unfolding tableSays
 returns-3 c =
     rw (
       sym (c .before .before .before .before .counts-fault .ensures) ∙ c .before .before .before .if1 .left,
@@ -39,6 +33,4 @@ returns-3 c =
     (c .check-records .ensures)
 
 pub check-spec : {M : Type 1} → statement M
-check-spec =
-    tie.close
-    (tie.spec counts-fault-requires returns cast-if2 returns-2 check-records-requires returns-3)
+check-spec = tie.close (tie.spec (λ c κs. search needs) returns (λ c. search needs) returns-2 check-records-requires returns-3)

@@ -3,23 +3,22 @@ use Prim.Native.Nat.{ℕ}
 use mathlib.Core.Path.{_≡_, sym, _∙_}
 use mathlib.Core.Bool.{Bool, true, false}
 use borrow.Author.Needs.{needs}
-use Rattle.sheet.specs.Paper.{gives, refusesAt}
-use Rattle.sheet.specs.Table.{windowFault, workFault, recordSays}
+use Rattle.sheet.specs.Paper.{gives}
+use Rattle.sheet.specs.Refusals.{refusalSays, recordSays}
+use Rattle.sheet.specs.Table.{windowFault, workFault}
+use Rattle.sheet.specs.declared.Refusal.the-variants.{Window, Work}
 use Rattle.sheet.specs.declared.Job.{Job}
 use Rattle.sheet.proofs.check_record.Statement.{statement}
 use Rattle.sheet.proofs.check_record.Tie as tie
 
 module _ (slots : ℕ) (j : Job) (last k : ℕ) where
-  five : {window : Bool} → window ≡ windowFault slots j → window ≡ true → refusesAt 5 k ≡ recordSays slots j last k
-  unfolding recordSays
+  five : {window : Bool} → window ≡ windowFault slots j → window ≡ true → refusalSays (Window k) ≡ recordSays (windowFault slots j) (workFault j last) k
   five asked is = rw (sym asked ∙ is)
 
-  six : {window work : Bool} → window ≡ windowFault slots j → window ≡ false → work ≡ workFault j last → work ≡ true → refusesAt 6 k ≡ recordSays slots j last k
-  unfolding recordSays
+  six : {window work : Bool} → window ≡ windowFault slots j → window ≡ false → work ≡ workFault j last → work ≡ true → refusalSays (Work k) ≡ recordSays (windowFault slots j) (workFault j last) k
   six asked is asked₂ is₂ = rw (sym asked ∙ is, sym asked₂ ∙ is₂)
 
-  fine : {window work : Bool} → window ≡ windowFault slots j → window ≡ false → work ≡ workFault j last → work ≡ false → gives tt ≡ recordSays slots j last k
-  unfolding recordSays
+  fine : {window work : Bool} → window ≡ windowFault slots j → window ≡ false → work ≡ workFault j last → work ≡ false → gives tt ≡ recordSays (windowFault slots j) (workFault j last) k
   fine asked is asked₂ is₂ = rw (sym asked ∙ is, sym asked₂ ∙ is₂)
 
 ruleset faults = (five, six, fine)

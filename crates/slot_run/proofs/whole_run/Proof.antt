@@ -1,155 +1,86 @@
--- The loop keeps: the state is that of slot n, and the plan holds the bytes of the slots before n.
+-- The loop keeps what a run keeps; in its body n is a slot of the day and the state's, so what is lent shows the day.
 use Prim.Native.Nat.{_≤_, _<_, _-_}
 use mathlib.Core.Path.{_≡_, refl, sym, ap, _∙_}
 use native.Mathlib.Omega.{arith}
-use lib.ListN.{length, length-set}
-use Rattle.slot_run.specs.Steps.{InDay}
-use Rattle.sheet.proofs.Lists.{over, over-none, over-more, over-all}
+use lib.ListN.{length}
+use Rattle.sheet.specs.Table.{mostSlots, Day, dayOf}
 use Rattle.slot_run.specs.declared.State.{State}
-use Rattle.slot_run.specs.Rules.{stateAt, planByte, decided, nextState, planOf}
-use Rattle.slot_run.proofs.RuleLaws.{small-byte, next-by-parts}
-use Rattle.slot_run.proofs.Running.{state-first, state-next, state-slot, byteAt}
-use Rattle.slot_run.proofs.Lending.{columns-lent, energy-lent}
+use Rattle.slot_run.specs.Rules.{planByte}
+use Rattle.slot_run.proofs.Lending.{shows}
+use Rattle.slot_run.proofs.RuleLaws.{small-byte}
+use Rattle.slot_run.proofs.Running.{state-slot, RunTo, run-none, run-more, run-all}
 use borrow.Author.Needs.{needs}
 use Rattle.slot_run.proofs.whole_run.Statement.{statement}
 use Rattle.slot_run.proofs.whole_run.Tie as tie
 
 abbrev Inv-loop : tie.InvT-loop
-Inv-loop t harvest plan₀ totals columns s₀ n₀ plan s n = (n ≤ length plan₀) × (s ≡ stateAt t harvest n) × (plan ≡ over (byteAt t harvest) plan₀ n) × (length plan ≡ length plan₀)
+Inv-loop t harvest totals plan₀ jobs s₀ n₀ plan s n = RunTo (dayOf t harvest) plan₀ n s plan
 
 abbrev μ-loop : tie.MeasureT-loop
-μ-loop t harvest plan₀ totals columns s₀ n₀ plan s n = length plan₀ - n
+μ-loop t harvest totals plan₀ jobs s₀ n₀ plan s n = length plan₀ - n
 
--- in the loop n is a place of the plan, the state's slot and a slot of the day
-within : (c : tie.In-loop Inv-loop μ-loop) → c .before .loop .n < length (c .before .before .before .before .before .before .before .args .plan .now)
-within c = omega arith
+abbrev day : tie.Start Inv-loop μ-loop → Day
+day start = dayOf (start .args .t) (start .args .harvest .now)
 
-slot-is : (c : tie.In-loop Inv-loop μ-loop) → c .before .loop .n ≡ c .before .loop .s .slot
-slot-is c =
-    let at-loop = c .before in
-    let start = at-loop .before .before .before .before .before .before .args in
-    sym (ap (λ (x : State). x .slot) (at-loop .loop .inv .1) ∙ state-slot (start .t) (start .harvest .now) (at-loop .loop .n))
+-- where the run began, seen from the loop, and the loop, seen from the end of its body
+abbrev began : tie.In-loop Inv-loop μ-loop → tie.Start Inv-loop μ-loop
+began c = c .before .before .before .before .before .before
 
+abbrev in-loop : tie.After-plan-byte Inv-loop μ-loop → tie.In-loop Inv-loop μ-loop
+in-loop c = c .before .before .before .before .before .before .before
+
+-- in the loop n is a slot of the day, and the state's
 in-day : (c : tie.In-loop Inv-loop μ-loop)
-    → let at-loop = c .before in
-    let start = at-loop .before .before .before .before .before .before .args in
-    InDay (start .t) (start .harvest .now) (at-loop .before .before .before .totals .result) (at-loop .loop .s)
+    → let start = began c in
+    let n = c .before .loop .n in
+    (n < length (start .args .plan .now)) × (n < start .args .t .slots) × (n ≡ c .before .loop .s .slot)
+    × (start .args .t .slots ≤ mostSlots) × (length (start .args .harvest .now) ≡ start .args .t .slots)
 in-day c =
-    let at-loop = c .before in
-    let made = at-loop .before .before .before in
-    let start = at-loop .before .before .before .before .before .before in
-    let slot = slot-is c in
-    let below = within c in
-    let long = start .pre .1 in
-    record {
-      good = start .pre .0;
-      totals-are = made .totals .ensures .0;
-      small = made .totals .ensures .1;
-      in-day = omega arith;
-    }
+    let start = began c in
+    let run = c .before .loop .inv in
+    let good = start .pre .0 .good in
+    let slot = state-slot (day start) (c .before .loop .n) in
+    (omega arith, omega arith, sym (ap (λ (x : State). x .slot) (run .state) ∙ slot), good .few-slots, good .harvest-fits)
 
-totals-requires : tie.Need-totals-requires Inv-loop μ-loop
-totals-requires c κs = search needs
-
-by-columns-requires : tie.Need-by-columns-requires Inv-loop μ-loop
-by-columns-requires c κs = c .before .before .before .pre .0 .few-jobs
-
-first-state-requires : tie.Need-first-state-requires Inv-loop μ-loop
-first-state-requires c κs = search needs
-
-loop-holds : tie.Need-loop-holds Inv-loop μ-loop
-loop-holds c =
-    let start = c .before .before .before .before .before .args in
-    (search needs, c .first-state .ensures ∙ sym (state-first (start .t) (start .harvest .now)), over-none _ (start .plan .now), refl)
-
-decide-requires : tie.Need-decide-requires Inv-loop μ-loop
-decide-requires c κs = (in-day (c .before .before .before .before .before .before .before .before), slot-is (c .before .before .before .before .before .before .before .before), columns-lent _ _ _ (c .before .before .before .before .before .before .before .before .before .before .before .by-columns .ensures))
+take-slot-requires : tie.Need-take-slot-requires Inv-loop μ-loop
+take-slot-requires c κs =
+    let at = c .before .before .before .before .before in
+    let start = began at in
+    let here = in-day at in
+    let made = c .before .before .before .before .before .before .before .before in (
+      day start,
+      shows _ _ _ _ (at .before .loop .s) (at .before .loop .n) _ (start .pre .0) (made .by-columns .ensures) (here .2) (here .1) (c .before .before .before .at-hand .ensures),
+    )
 
 plan-byte-requires : tie.Need-plan-byte-requires Inv-loop μ-loop
+unfolding take-slot-requires
 plan-byte-requires c κs =
-    let at-loop = c .before .before .before .before .before .before .before .before .before .before in
-    let start = at-loop .before .before .before .before .before .before in
-    rw (c .decide .ensures) (small-byte (start .args .t) (start .args .harvest .now) (at-loop .loop .s) (start .pre .0 .few-jobs))
-
-slice-write-plan : tie.Need-slice-write-plan Inv-loop μ-loop
-slice-write-plan c = search needs
-
-after-requires : tie.Need-after-requires Inv-loop μ-loop
-after-requires c κs =
-    let in-loop = c .before .before .before .before .before .before .before .before .before .before .before .before .before in
-    let day = in-day in-loop in
-    (day .good, day .in-day, slot-is in-loop, energy-lent _ _ (c .before .before .before .before .before .before .before .before .before .before .before .before .before .before .before .before .by-columns .ensures), c .before .before .before .before .decide .ensures, refl)
-
-add-s : tie.Need-add-s Inv-loop μ-loop
-add-s c =
-    let in-loop = c .before .before .before .before .before .before .before .before .before .before .before .before .before .before in
-    let day = in-day in-loop in
-    let few = day .good .few-slots in
-    let here = day .in-day in
-    omega arith
-
-add-n : tie.Need-add-n Inv-loop μ-loop
-add-n c =
-    let in-loop = c .before .before .before .before .before .before .before .before .before .before .before .before .before .before in
-    let start = in-loop .before .before .before .before .before .before .before in
-    let few = start .pre .0 .few-slots in
-    let long = start .pre .1 in
-    let below = within in-loop in
-    omega arith
-
-loop-less : tie.Need-loop-less Inv-loop μ-loop
-loop-less c = search needs
+    let at = c .before .before .before .before .before .before in
+    let start = began at in
+    let takes = c .take-slot .ensures (day start) (take-slot-requires (c .before) (c .take-slot .lifetimes) .1) in
+    rw (takes .decided-is) (small-byte (day start) (at .before .loop .s) (start .pre .0 .good .few-jobs))
 
 loop-again : tie.Need-loop-again Inv-loop μ-loop
+unfolding take-slot-requires
 loop-again c =
-    let in-loop = c .before .before .before .before .before .before .before .before .before .before .before .before .before .before in
-    let at-loop = in-loop .before in
-    let start = at-loop .before .before .before .before .before .before .args in
-    let n = at-loop .loop .n in
-    let below = within in-loop in
-    let wrote = c .before .before .before .before in
-    let said = wrote .before .decide .ensures in
-    let byte = wrote .plan-byte .ensures ∙ ap planByte said ∙ ap (λ (x : State). planByte (decided (start .t) (start .harvest .now) x)) (at-loop .loop .inv .1) in (
-      omega arith,
-      next-by-parts (start .t) (start .harvest .now) (at-loop .loop .s) _ _ (c .after .ensures)
-          ∙ ap (nextState (start .t) (start .harvest .now)) (at-loop .loop .inv .1)
-          ∙ sym (state-next (start .t) (start .harvest .now) n),
-      rw (byte, at-loop .loop .inv .2) (over-more (byteAt (start .t) (start .harvest .now)) (start .plan .now) n below),
-      simp length-set (at-loop .loop .inv .3),
-    )
-
-same-length : tie.Need-same-length Inv-loop μ-loop
-same-length c = search needs
+    let at = in-loop c in
+    let taken = c .before .take-slot in
+    let takes = taken .ensures (day (began at)) (take-slot-requires (c .before .before) (taken .lifetimes) .1) in
+    run-more _ _ _ _ _ (at .before .loop .inv) (in-day at .0) _ _ (takes .next-is) (c .plan-byte .ensures ∙ ap planByte (takes .decided-is))
 
 returns : tie.Need-returns Inv-loop μ-loop
-unfolding planOf
 returns c =
-    let at-loop = c .before in
-    let start = at-loop .before .before .before .before .before .before in
-    let at-end : at-loop .loop .n ≡ start .args .t .slots = omega arith in (
-      at-loop .loop .inv .1 ∙ ap (stateAt (start .args .t) (start .args .harvest .now)) at-end,
-      at-loop .loop .inv .2
-          ∙ ap (over (byteAt (start .args .t) (start .args .harvest .now)) (start .args .plan .now)) at-end
-          ∙ over-all (byteAt (start .args .t) (start .args .harvest .now)) (start .args .plan .now) (start .args .t .slots) (start .pre .1),
-    )
+    let start = c .before .before .before .before .before .before .before .before .before .before in
+    let at-loop = c .before .before .before .before .before in
+    let all = run-all (day start) _ _ _ _ (at-loop .loop .inv) (start .pre .1) (omega arith) in
+    (c .find-unfinished .ensures (day start) _ (c .before .before .before .before .before .before .before .by-columns .ensures) refl (sym (ap (λ (x : State). x .left) (all .0))), all .1)
 
 pub whole-run-spec : {M : Type 1} → statement M
 whole-run-spec =
     tie.close
-    (tie.spec
-    Inv-loop
-    μ-loop
-    totals-requires
-    by-columns-requires
-    first-state-requires
-    loop-holds
-    decide-requires
-    plan-byte-requires
-    slice-write-plan
-    after-requires
-    add-s
-    add-n
-    loop-less
-    loop-again
-    same-length
-    returns)
+    (tie.spec Inv-loop μ-loop (λ c κs. search needs) (λ c κs. search needs) (λ c. run-none _ _ _ (c .first-state .ensures _))
+    (λ c. let here = in-day (c .before) in omega arith) (λ c κs. search needs) (λ c. let here = in-day (c .before .before) in omega arith)
+    (λ c. let here = in-day (c .before .before) in omega arith) take-slot-requires plan-byte-requires
+    (λ c. let here = in-day (in-loop c) in omega arith) (λ c. let here = in-day (in-loop c) in omega arith)
+    (λ c. let here = in-day (in-loop c) in omega arith) (λ c. let here = in-day (in-loop c) in omega arith) loop-again (λ c κs. search needs)
+    (λ c. search needs) returns)

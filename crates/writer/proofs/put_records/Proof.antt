@@ -23,47 +23,8 @@ loop-holds : tie.Need-loop-holds Inv-loop μ-loop
 unfolding joined
 loop-holds c = (refl, search needs, refl, laid-none _ _)
 
-mul-put-record : tie.Need-mul-put-record Inv-loop μ-loop
-mul-put-record c = search needs
-
-mul-put-record-2 : tie.Need-mul-put-record-2 Inv-loop μ-loop
-mul-put-record-2 c = search needs
-
-element-copy-out-put-record : tie.Need-element-copy-out-put-record Inv-loop μ-loop
-element-copy-out-put-record c = search needs
-
-mul-put-record-3 : tie.Need-mul-put-record-3 Inv-loop μ-loop
-mul-put-record-3 c = search needs
-
-element-copy-out-put-record-2 : tie.Need-element-copy-out-put-record-2 Inv-loop μ-loop
-element-copy-out-put-record-2 c = search needs
-
-mul-put-record-4 : tie.Need-mul-put-record-4 Inv-loop μ-loop
-mul-put-record-4 c = search needs
-
-element-copy-out-put-record-3 : tie.Need-element-copy-out-put-record-3 Inv-loop μ-loop
-element-copy-out-put-record-3 c = search needs
-
-mul-put-record-5 : tie.Need-mul-put-record-5 Inv-loop μ-loop
-mul-put-record-5 c = search needs
-
-element-copy-out-put-record-4 : tie.Need-element-copy-out-put-record-4 Inv-loop μ-loop
-element-copy-out-put-record-4 c = search needs
-
-put-record-requires : tie.Need-put-record-requires Inv-loop μ-loop
-put-record-requires c κs = search needs
-
-add-k : tie.Need-add-k Inv-loop μ-loop
-add-k c = search needs
-
-loop-less : tie.Need-loop-less Inv-loop μ-loop
-loop-less c = search needs
-
 loop-again : tie.Need-loop-again Inv-loop μ-loop
 loop-again c = (refl, search needs, search needs, search records-laid)
-
-same-length : tie.Need-same-length Inv-loop μ-loop
-same-length c = search needs
 
 returns : tie.Need-returns Inv-loop μ-loop
 returns c =
@@ -74,22 +35,6 @@ returns c =
 pub put-records-spec : {M : Type 1} → statement M
 put-records-spec =
     tie.close
-    (tie.spec
-    Inv-loop
-    μ-loop
-    loop-holds
-    mul-put-record
-    mul-put-record-2
-    element-copy-out-put-record
-    mul-put-record-3
-    element-copy-out-put-record-2
-    mul-put-record-4
-    element-copy-out-put-record-3
-    mul-put-record-5
-    element-copy-out-put-record-4
-    put-record-requires
-    add-k
-    loop-less
-    loop-again
-    same-length
-    returns)
+    (tie.spec Inv-loop μ-loop loop-holds (λ c. search needs) (λ c. search needs) (λ c. search needs) (λ c. search needs) (λ c. search needs)
+    (λ c. search needs) (λ c. search needs) (λ c. search needs) (λ c. search needs) (λ c κs. search needs) (λ c. search needs) (λ c. search needs)
+    loop-again (λ c. search needs) returns)

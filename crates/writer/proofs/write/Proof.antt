@@ -1,27 +1,19 @@
 -- Each answer follows what the check said, and then the test of the room; the buffer is what `put_sheet` laid.
-use Rattle.sheet.proofs.Order.{says-gives}
-use Rattle.sheet.specs.WellFormed.{GoodTable}
-use Rattle.sheet.proofs.Theorems.{table-accepted-exactly}
+use Rattle.sheet.specs.HandedIn.{onTable}
+use Rattle.sheet.specs.Table.{dayOf}
+use Rattle.sheet.specs.WellFormed.{GoodDay}
+use Rattle.sheet.proofs.HandedIn.{checked-good}
 use Rattle.writer.proofs.Promised.{writes-refused, writes-no-room, writes-length}
 use borrow.Author.Needs.{needs}
 use Rattle.writer.proofs.write.Statement.{statement}
 use Rattle.writer.proofs.write.Tie as tie
 
 -- past the check the table and the harvest are well formed
-good : (c : tie.After-enum-told) → let start = c .before .before .before .before .before in GoodTable (start .args .t) (start .args .harvest .now)
-good c = table-accepted-exactly _ _ .0 (says-gives _ _ (c .enum-told .given .1) (c .before .before .check .ensures))
-
-check-requires : tie.Need-check-requires
-check-requires c κs = search needs
-
-enum-known-answer : tie.Need-enum-known-answer
-enum-known-answer c = search needs
+good : (c : tie.After-enum-told) → let start = c .before .before .before .before .before in GoodDay (dayOf (start .args .t) (start .args .harvest .now))
+good c = checked-good (onTable _ _) _ (c .before .before .check .ensures) (c .enum-told .given .1)
 
 returns : tie.Need-returns
 returns c = search writes-refused
-
-enum-told : tie.Need-enum-told
-enum-told c = search needs
 
 sheet-length-requires : tie.Need-sheet-length-requires
 sheet-length-requires c κs = good c .few-jobs
@@ -35,22 +27,11 @@ put-sheet-requires c κs =
     let known = good (tested .before) in
     ((known .few-jobs, known .few-slots, known .harvest-fits), (tested .sheet-length .ensures, c .before .if1 .left))
 
-same-length : tie.Need-same-length
-same-length c = search needs
-
 returns-3 : tie.Need-returns-3
 returns-3 c = search writes-length
 
 pub write-spec : {M : Type 1} → statement M
 write-spec =
     tie.close
-    (tie.spec
-    check-requires
-    enum-known-answer
-    returns
-    enum-told
-    sheet-length-requires
-    returns-2
-    put-sheet-requires
-    same-length
+    (tie.spec (λ c κs. search needs) (λ c. search needs) returns (λ c. search needs) sheet-length-requires returns-2 put-sheet-requires (λ c. search needs)
     returns-3)

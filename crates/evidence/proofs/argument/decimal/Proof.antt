@@ -23,12 +23,6 @@ returns c = search no-text
 loop-holds : tie.Need-loop-holds Inv-loop μ-loop
 loop-holds c = search (needs, digits-none, written-none)
 
-shared-slice-read-byte : tie.Need-shared-slice-read-byte Inv-loop μ-loop
-shared-slice-read-byte c = search needs
-
-is-digit-requires : tie.Need-is-digit-requires Inv-loop μ-loop
-is-digit-requires c κs = search needs
-
 returns-2 : tie.Need-returns-2 Inv-loop μ-loop
 returns-2 c =
     let at-loop = c .before .before .before .before in
@@ -37,15 +31,6 @@ returns-2 c =
 
 sub-with-digit : tie.Need-sub-with-digit Inv-loop μ-loop
 sub-with-digit c = digit-least _ _ (c .before .is-digit .ensures) (not-false _ (c .if2 .left))
-
-with-digit-requires : tie.Need-with-digit-requires Inv-loop μ-loop
-with-digit-requires c κs = search needs
-
-add-i : tie.Need-add-i Inv-loop μ-loop
-add-i c = search needs
-
-loop-less : tie.Need-loop-less Inv-loop μ-loop
-loop-less c = search needs
 
 loop-again : tie.Need-loop-again Inv-loop μ-loop
 loop-again c =
@@ -67,17 +52,5 @@ returns-3 c =
 pub decimal-spec : {M : Type 1} → statement M
 decimal-spec =
     tie.close
-    (tie.spec
-    Inv-loop
-    μ-loop
-    returns
-    loop-holds
-    shared-slice-read-byte
-    is-digit-requires
-    returns-2
-    sub-with-digit
-    with-digit-requires
-    add-i
-    loop-less
-    loop-again
-    returns-3)
+    (tie.spec Inv-loop μ-loop returns loop-holds (λ c. search needs) (λ c κs. search needs) returns-2 sub-with-digit (λ c κs. search needs)
+    (λ c. search needs) (λ c. search needs) loop-again returns-3)

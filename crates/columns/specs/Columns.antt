@@ -1,0 +1,16 @@
+-- A table's jobs by columns. No promise of the paper rests on this page.
+use Prim.Native.Nat.{ℕ, _+_, _*_, _≤_, _<_}
+use mathlib.Core.Path.{_≡_}
+use mathlib.Core.List.{List}
+use lib.ListN.{getD}
+use Rattle.sheet.specs.Table.{mostJobs, jobOf}
+use Rattle.sheet.specs.declared.Table.{Table}
+
+-- the numbers of job k stand in place k of the four columns, and zeros beyond the last job
+pub record ColumnsOf (t : Table) (columns : List ℕ) : Type 0 where
+  pub release : (k : ℕ) → k < t .count → k < mostJobs → getD columns k 0 ≡ jobOf t k .release
+  pub deadline : (k : ℕ) → k < t .count → k < mostJobs → getD columns (64 + k) 0 ≡ jobOf t k .deadline
+  pub wanted : (k : ℕ) → k < t .count → k < mostJobs → getD columns (128 + k) 0 ≡ jobOf t k .wanted
+  pub energy : (k : ℕ) → k < t .count → k < mostJobs → getD columns (192 + k) 0 ≡ jobOf t k .energy
+  pub beyond : (column k : ℕ) → column < 4 → t .count ≤ k → k < mostJobs → getD columns (mostJobs * column + k) 0 ≡ 0
+  pub small : (k : ℕ) → getD columns (192 + k) 0 ≤ 255
