@@ -1,18 +1,14 @@
 -- Each answer as one number: a refusal's, an interval's, and that of an undecided day, whose job is one of the table's.
 use Prim.Native.Nat.{ℕ, _+_, _*_, _%_, _<_, _^_}
-use mathlib.Core.Path.{_≡_, refl, sym, ap, ap₂, _∙_}
+use mathlib.Core.Path.{_≡_, refl, ap, ap₂, _∙_}
 use mathlib.Core.List.{List}
-use mathlib.Core.Bool.{not}
 use native.Mathlib.Omega.{arith}
-use lib.Dec.{eqb}
-use lib.ListN.{length}
-use Rattle.sheet.specs.HandedIn.{onSheet, checkSays, dayIn}
-use Rattle.sheet.specs.Paper.{Paper, Check, gives, refuses, refusesAt, _when_, _else_, numberOf, placeOf}
+use Rattle.sheet.specs.HandedIn.{onSheet, dayIn}
+use Rattle.sheet.specs.Paper.{Paper, Check, gives, refuses, refusesAt, numberOf, placeOf}
 use Rattle.sheet.specs.Refusals.{refusalSays, refusalNumber, refusalPlace}
 use Rattle.sheet.specs.Table.{mostJobs}
 use Rattle.sheet.specs.declared.Refusal.{Refusal}
-use Rattle.sheet.proofs.HandedIn.{check-leaves}
-use Rattle.sheet.proofs.Order.{Refuses, else-gave}
+use Rattle.sheet.proofs.Order.{Refuses}
 use Rattle.sheet.proofs.Refusals.{refusal-refuses}
 use Rattle.writer.specs.Promise.{writtenSays}
 use Rattle.writer.specs.declared.Written.{Written}
@@ -30,8 +26,9 @@ use Rattle.slot_run.specs.Rules.{stateAt}
 use Rattle.slot_run.specs.declared.Choice.{Choice}
 use Rattle.slot_run.specs.declared.Choice.the-variants.{Nobody, Job}
 use Rattle.slot_run.proofs.Choosing.{chosen-passes}
-use Rattle.planner.specs.Plan.{Verdict, undecided, byFound, byUnfinished, verdictOf, wrongPlan, planFor}
+use Rattle.planner.specs.Plan.{undecided, byFound, byUnfinished, verdictOf}
 use Rattle.planner.specs.Promise.{plannedSays, Plans}
+use Rattle.planner.proofs.Theorems.{verdict-given}
 use Rattle.planner.specs.declared.Planned.{Planned}
 use Rattle.planner.specs.declared.Planned.the-variants as Planned
 use Rattle.judge.specs.Numbers.{faultSays, noInterval, notOverloaded}
@@ -67,9 +64,9 @@ pub search-overloaded : (a : Searched) (o : Overload) (n : ℕ) → a ≡ Search
 unfolding foundSays
 search-overloaded a o n e h = rw e h
 
-pub search-clear : (a : Searched) → a ≡ Searched.Clear → 0 ≡ numbered answerNumber refusedNumber (searchedSays a)
+pub clear-numbered : (a : Searched) → a ≡ Searched.Clear → 0 ≡ numbered answerNumber refusedNumber (searchedSays a)
 unfolding foundSays
-search-clear a e = rw e
+clear-numbered a e = rw e
 
 pub plan-overloaded : (a : Planned) (o : Overload) (n : ℕ) → a ≡ Planned.Overloaded o → n ≡ intervalNumber (overloadSays o)
     → n ≡ numbered verdictNumber refusedNumber (plannedSays a)
@@ -88,19 +85,14 @@ left-over (Found.Interval o) c k e = let z : _≡_ {A = ℕ} 0 1 = cc in absurd 
 left-over Found.Nothing Nobody k e = let z : _≡_ {A = ℕ} 0 1 = cc in absurd (omega arith)
 left-over Found.Nothing (Job m) k e = cc
 
-same-verdict : (v w : Verdict) → gives v ≡ gives w → v ≡ w
-same-verdict v w e = cc
-
 -- the job of an undecided day is one of a table of at most 64
 pub undecided-few : (s plan : List ℕ) (r : Planned) (after : List ℕ) → Plans (onSheet s) plan r after → (k : ℕ) → r ≡ Planned.Undecided k → k < mostJobs
-unfolding planFor verdictOf unfinished
+unfolding verdictOf unfinished
 undecided-few s plan r after plans k told =
     let d = dayIn (onSheet s) in
-    let says : planFor (onSheet s) plan ≡ gives (undecided k) = sym (plans .answer) ∙ ap plannedSays told in
-    let first = else-gave (checkSays (onSheet s)) (wrongPlan when not (eqb (length plan) (d .table .slots)) else gives (verdictOf d)) (undecided k) says in
-    let then = else-gave (wrongPlan when not (eqb (length plan) (d .table .slots))) (gives (verdictOf d)) (undecided k) (first .1) in
-    let few = check-leaves (onSheet s) .0 (first .0) .good-day .few-jobs in
-    let left = left-over (firstOverload d) (unfinished d (stateAt d (d .table .slots))) k (same-verdict _ _ (then .1)) in
+    let given = verdict-given (onSheet s) plan r after plans (undecided k) (ap plannedSays told) in
+    let few = given .0 .good-day .few-jobs in
+    let left = left-over (firstOverload d) (unfinished d (stateAt d (d .table .slots))) k (given .1) in
     let below = chosen-passes _ _ (d .table .count) k left .below in
     omega arith
 

@@ -61,7 +61,7 @@ verdictNumber met = 0
 verdictNumber (undecided k) = undecidedNumber + k
 
 -- the answer, and every byte of the plan buffer
-pub record PlansSheet (s plan : List ℕ) (r : ℕ) (after : List ℕ) : Type 0 where
+pub record PlanNumbered (s plan : List ℕ) (r : ℕ) (after : List ℕ) : Type 0 where
   pub answer : r ≡ numbered verdictNumber refusedNumber (planFor (onSheet s) plan)
   pub buffer : after ≡ planLeft (onSheet s) plan
 
@@ -82,13 +82,13 @@ abbrev pub checkNumber : Check → ℕ
 checkNumber a = numberOf a + 32 * (placeOf a % 2048)
 
 -- a plan against a sheet
-abbrev pub JudgesSheetPlan : List ℕ → List ℕ → ℕ → Type 0
-JudgesSheetPlan s plan r = r ≡ checkNumber (judgedPlan (onSheet s) plan)
+abbrev pub JudgementNumbered : List ℕ → List ℕ → ℕ → Type 0
+JudgementNumbered s plan r = r ≡ checkNumber (judgedPlan (onSheet s) plan)
 
 -- what was weighed, above every check's number: 26 bits of the demand, and above them 20 of the supply
 abbrev pub sumsNumber : Sums → ℕ
 sumsNumber w = 65536 * (w .demand % 67108864) + 4398046511104 * (w .supply % 1048576)
 
 -- a claim against a sheet: the answer, and what was weighed
-abbrev pub JudgesSheetClaim : List ℕ → (kind from to r : ℕ) → Type 0
-JudgesSheetClaim s kind from to r = r ≡ checkNumber (judgedClaim (onSheet s) kind from to) + sumsNumber (judgedSums (onSheet s) kind from to)
+abbrev pub ClaimNumbered : List ℕ → (kind from to r : ℕ) → Type 0
+ClaimNumbered s kind from to r = r ≡ checkNumber (judgedClaim (onSheet s) kind from to) + sumsNumber (judgedSums (onSheet s) kind from to)

@@ -16,7 +16,7 @@ ghost use Rattle.demand.specs.Search.{searchedSays, overloadSays};
 ghost use Rattle.judge.specs.Promise.{planAnswered, claimAnswered, sumsTold};
 ghost use Rattle.planner.specs.Promise.{plannedSays};
 ghost use Rattle.writer.specs.Promise.{writtenSays};
-ghost use Rattle.bench.specs.Promise.{numbered, intervalNumber, refusedNumber, answerNumber, verdictNumber, checkNumber, sumsNumber, ThereAndBack, SearchesYielded, PlansSheet, FirstSteps, JudgesSheetPlan, JudgesSheetClaim};
+ghost use Rattle.bench.specs.Promise.{numbered, intervalNumber, refusedNumber, answerNumber, verdictNumber, checkNumber, sumsNumber, ThereAndBack, SearchesYielded, PlanNumbered, FirstSteps, JudgementNumbered, ClaimNumbered};
 
 // The numbers beside an interval's: a refusal's, and an undecided day's with its job 0.
 const REFUSED: u64 = 1 << 40;
@@ -107,7 +107,7 @@ fn plan_number(answer: Planned) -> u64
 // the length of `plan` is refused. In the last two cases every byte of `plan` is what it was.
 #[no_mangle]
 pub extern "C" fn gishronek_plan(bytes: &[u8], plan: &mut [u8]) -> u64
-    ensures { λ r. ⌜ PlansSheet (now (bytes .entry)) (now (plan .entry)) r (now (plan .exit)) ⌝ }
+    ensures { λ r. ⌜ PlanNumbered (now (bytes .entry)) (now (plan .entry)) r (now (plan .exit)) ⌝ }
 {
     plan_number(planner::plan_sheet(bytes, plan))
 }
@@ -155,7 +155,7 @@ fn judged_plan_number(answer: JudgedPlan) -> u64
 // the refusal's number, and 32 times the place that it names. No byte is written.
 #[no_mangle]
 pub extern "C" fn gishronek_judge_plan(bytes: &[u8], plan: &[u8]) -> u64
-    ensures { λ r. ⌜ JudgesSheetPlan (now (bytes .entry)) (now (plan .entry)) r ⌝ }
+    ensures { λ r. ⌜ JudgementNumbered (now (bytes .entry)) (now (plan .entry)) r ⌝ }
 {
     judged_plan_number(judge::plan_on_sheet(bytes, plan))
 }
@@ -195,7 +195,7 @@ fn judged_claim_number(answer: JudgedClaim) -> u64
 // the supply that were weighed, both 0 where nothing was.
 #[no_mangle]
 pub extern "C" fn gishronek_judge_claim(bytes: &[u8], kind: u64, start: u64, end: u64) -> u64
-    ensures { λ r. ⌜ JudgesSheetClaim (now (bytes .entry)) kind start end r ⌝ }
+    ensures { λ r. ⌜ ClaimNumbered (now (bytes .entry)) kind start end r ⌝ }
 {
     judged_claim_number(judge::claim_on_sheet(bytes, kind, start, end))
 }

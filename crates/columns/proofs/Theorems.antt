@@ -1,12 +1,11 @@
 -- What the promise of columns settles.
 use Prim.Native.Nat.{ℕ, _+_, _*_, _-_, _≤_, _<_}
-use mathlib.Core.Path.{_≡_, sym, ap, _∙_, subst}
+use mathlib.Core.Path.{_≡_, sym, _∙_, subst}
 use mathlib.Core.List.{List}
-use native.Mathlib.Decide.{decLt, ℕ-discrete}
+use native.Mathlib.Decide.{decLt}
 use native.Mathlib.Omega.{arith}
 use lib.ListN.{length, getD}
 use lib.Seq.{ext-getD}
-use Rattle.sheet.specs.Table.{mostJobs}
 use Rattle.sheet.specs.declared.Table.{Table}
 use Rattle.columns.specs.Columns.{ColumnsOf}
 

@@ -186,7 +186,7 @@ searched-back (Searched.Refused why) = by-refusal Answer Searched.Refused _ why
 searched-back (Searched.Overloaded o) = ap Searched.Overloaded (overload-back o)
 searched-back Searched.Clear = refl
 
-says-one : (r q : Searched) → searchedSays r ≡ searchedSays q → r ≡ q
+pub says-one : (r q : Searched) → searchedSays r ≡ searchedSays q → r ≡ q
 says-one r q e = sym (searched-back r) ∙ ap searchedMeant e ∙ searched-back q
 
 -- ---- the theorems

@@ -20,9 +20,10 @@ use Rattle.judge.specs.Judge.{namesNothing, outsideWindow, hasAllSlots, 
 use Rattle.judge.specs.Numbers.{faultSays}
 use Rattle.judge.specs.Steps.{findingSays, endsBy}
 use Rattle.judge.specs.declared.PlanFault.{PlanFault}
-use Rattle.judge.specs.declared.PlanFault.the-variants.{WrongLength, NoJob, OutsideWindow, HasAllSlots, LacksCharge, LacksSlots}
+use Rattle.judge.specs.declared.PlanFault.the-variants.{NoJob, OutsideWindow, HasAllSlots, LacksCharge, LacksSlots}
 use Rattle.judge.specs.declared.Finding.{Finding}
 use Rattle.judge.specs.declared.Finding.the-variants.{Nothing, Fault}
+use Rattle.judge.proofs.PlanOrder.{fault-refuses}
 
 -- ---- the slots that a job got
 
@@ -135,16 +136,8 @@ job-clear j i got charge e = go (outsideWindow j i) (hasAllSlots j got) (lacksCh
     go false false false e = (refl, refl, refl)
 
 -- what is found is a refusal, and what is said where nothing is found
-pub fault-refuses : (x : Finding) (f : PlanFault) (r : Check) → x ≡ Fault f → findingSays x ≡ r → Refuses r
-fault-refuses x f r e says = subst Refuses (ap findingSays (sym e) ∙ says) (go f)
-  where
-    go : (g : PlanFault) → Refuses (faultSays g)
-    go WrongLength = tt
-    go (NoJob i) = tt
-    go (OutsideWindow i) = tt
-    go (HasAllSlots i) = tt
-    go (LacksCharge i) = tt
-    go (LacksSlots k) = tt
+pub found-refuses : (x : Finding) (f : PlanFault) (r : Check) → x ≡ Fault f → findingSays x ≡ r → Refuses r
+found-refuses x f r e says = subst Refuses (ap findingSays (sym e) ∙ says) (fault-refuses f)
 
 pub nothing-gives : (x : Finding) (r : Check) → x ≡ Nothing → findingSays x ≡ r → r ≡ gives tt
 nothing-gives x r e says = sym says ∙ ap findingSays e

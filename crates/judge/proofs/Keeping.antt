@@ -20,7 +20,7 @@ use Rattle.judge.specs.declared.PlanFault.{PlanFault}
 use Rattle.judge.specs.declared.PlanFault.the-variants.{NoJob}
 use Rattle.judge.specs.declared.Finding.{Finding}
 use Rattle.judge.specs.declared.Finding.the-variants.{Nothing, Fault}
-use Rattle.judge.proofs.Judging.{got-none, got-here, got-not-here, level-first, idle-says, idle-level, idle-got, stranger-says, busy-says, busy-level, first-refused, ends-decide, job-clear, fault-refuses, nothing-gives, byte-stands}
+use Rattle.judge.proofs.Judging.{got-none, got-here, got-not-here, level-first, idle-says, idle-level, idle-got, stranger-says, busy-says, busy-level, first-refused, ends-decide, job-clear, found-refuses, nothing-gives, byte-stands}
 
 -- the level and the slots that each job got are the plan's, and no slot before i is refused
 pub record Kept (d : Day) (plan got : List ℕ) (level i : ℕ) : Type 0 where
@@ -83,7 +83,7 @@ module _ (d : Day) (plan got : List ℕ) (level i byte charge : ℕ) (kept : Kep
 
     pub refused-job : (f : PlanFault) → found ≡ Fault f → findingSays found ≡ slotsSay d plan
     refused-job f e =
-        sym (first-refused d plan i (findingSays found) (read .in-day) (kept .clear) (sym slot-said) (fault-refuses found f _ e refl))
+        sym (first-refused d plan i (findingSays found) (read .in-day) (kept .clear) (sym slot-said) (found-refuses found f _ e refl))
 
     module _ (nothing : found ≡ Nothing) where
       pub gets-more : getD got byte 0 < jobOf (d .table) byte .wanted

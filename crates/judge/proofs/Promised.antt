@@ -7,7 +7,7 @@ use lib.Dec.{ltb, eqb}
 use lib.ListN.{length}
 use borrow.Author.Tests.{lt-ltb, le-ltb, eq-eqb, ne-eqb, ltb-true, ltb-false, not-false}
 use Rattle.sheet.specs.HandedIn.{HandedIn, onSheet, onTable, checkSays, dayIn}
-use Rattle.sheet.specs.Paper.{Check, gives, _when_, _else_, whereGiven}
+use Rattle.sheet.specs.Paper.{Check, gives, _when_, whereGiven}
 use Rattle.sheet.specs.Refusals.{refusalSays, outcomeSays}
 use Rattle.sheet.specs.Sums.{harvestOf}
 use Rattle.sheet.specs.Table.{Day, dayOf}
@@ -16,7 +16,7 @@ use Rattle.sheet.specs.declared.Outcome.{Outcome}
 use Rattle.sheet.specs.declared.Outcome.the-variants as Outcome
 use Rattle.sheet.specs.declared.Refusal.{Refusal}
 use Rattle.sheet.specs.declared.Table.{Table}
-use Rattle.sheet.proofs.HandedIn.{check-leaves, hands-on, past-check, leave-here, called-there}
+use Rattle.sheet.proofs.HandedIn.{check-leaves, hands-on, past-check, called-there}
 use Rattle.sheet.proofs.Refusals.{refusal-gives-nothing}
 use Rattle.sheet.proofs.Words.{or-left, or-right}
 use Rattle.reader.specs.Promise.{Reads, harvestBehind}
@@ -26,8 +26,8 @@ use Rattle.demand.specs.Demand.{kindNumber, demandOf, supplyOf, overloaded}
 use Rattle.demand.specs.declared.Kind.{Kind}
 use Rattle.demand.specs.declared.Kind.the-variants.{Time, Energy}
 use Rattle.judge.specs.Judge.{slotsSay, planSays, judgedPlan, kindOf, claimFault, claimSays, judgedClaim, noSums, sumsOf, judgedSums}
-use Rattle.judge.specs.Numbers.{faultSays, noInterval}
-use Rattle.judge.specs.Promise.{planAnswered, JudgesPlan, claimAnswered, sumsTold, JudgesClaim}
+use Rattle.judge.specs.Numbers.{noInterval}
+use Rattle.judge.specs.Promise.{planAnswered, JudgesPlan, JudgesClaim}
 use Rattle.judge.specs.Steps.{findingSays}
 use Rattle.judge.specs.declared.PlanFault.{PlanFault}
 use Rattle.judge.specs.declared.PlanFault.the-variants.{WrongLength}

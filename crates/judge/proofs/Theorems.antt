@@ -7,7 +7,7 @@ use mathlib.Core.List.{List}
 use mathlib.Core.Logic.{_↔_, ⊎-elim, Iff·trans}
 use native.Mathlib.Omega.{arith}
 use lib.Dec.{eqb}
-use Rattle.sheet.specs.HandedIn.{HandedIn, onSheet, onTable, checkSays, dayIn, Sound, states}
+use Rattle.sheet.specs.HandedIn.{HandedIn, onSheet, onTable, dayIn, Sound, states}
 use Rattle.sheet.specs.Paper.{Check, gives, refuses, refusesAt, _when_, _else_, numberOf}
 use Rattle.sheet.specs.Refusals.{refusalSays}
 use Rattle.sheet.specs.Table.{dayOf}
@@ -31,7 +31,7 @@ use Rattle.judge.specs.declared.JudgedClaim.{JudgedClaim}
 use Rattle.judge.specs.declared.JudgedClaim.the-variants as Claim
 use Rattle.judge.proofs.Acceptable.{given-exactly, acceptable-exactly}
 use Rattle.judge.proofs.ClaimWords.{kind-meant, kind-number, kind-of-number, IsInterval, is-interval, interval-words, claim-accepted, claim-seventeen, claim-eighteen}
-use Rattle.judge.proofs.PlanOrder.{decided, faultMeant, fault-meant}
+use Rattle.judge.proofs.PlanOrder.{decided, faultMeant}
 
 -- ---- a plan
 

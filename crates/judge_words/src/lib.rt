@@ -54,9 +54,9 @@ fn print_why(why: Refusal) {
 fn print_sheet_refused(why: Refusal) {
     print::refused(sheet::number(why));
     match why {
-        Refusal::Window(k) | Refusal::Work(k) => {
+        Refusal::Window(_) | Refusal::Work(_) => {
             print::word(b" at record ");
-            print::number(k);
+            print::number(sheet::place(why));
         }
         _ => {}
     }

@@ -102,7 +102,9 @@ pub fn refused(out: &mut [u8], at: usize, number: u8) -> usize {
 pub fn refusal(out: &mut [u8], at: usize, why: Refusal) -> usize {
     let end = refused(out, at, sheet::number(why));
     match why {
-        Refusal::Window(k) | Refusal::Work(k) => named(out, end, b" record ", k as u64),
+        Refusal::Window(_) | Refusal::Work(_) => {
+            named(out, end, b" record ", sheet::place(why) as u64)
+        }
         _ => end,
     }
 }
@@ -112,11 +114,8 @@ pub fn fault(out: &mut [u8], at: usize, fault: PlanFault) -> usize {
     let end = refused(out, at, judge::number(fault));
     match fault {
         PlanFault::WrongLength => end,
-        PlanFault::NoJob(slot)
-        | PlanFault::OutsideWindow(slot)
-        | PlanFault::HasAllSlots(slot)
-        | PlanFault::LacksCharge(slot) => named(out, end, b" slot ", slot as u64),
-        PlanFault::LacksSlots(k) => named(out, end, b" job ", k as u64),
+        PlanFault::LacksSlots(_) => named(out, end, b" job ", judge::place(fault) as u64),
+        _ => named(out, end, b" slot ", judge::place(fault) as u64),
     }
 }
 
@@ -216,7 +215,7 @@ pub fn table(out: &mut [u8], at: usize, t: Table) -> usize {
 }
 
 // The places of a state up to the last that has something left.
-fn places_left(left: [u16; 64]) -> usize
+fn places_left(left: [u16; sheet::MOST_JOBS]) -> usize
     ensures { λ r. ⌜ r ≤ mostJobs ⌝ }
 {
     let mut count = sheet::MOST_JOBS;
@@ -240,7 +239,7 @@ fn mark_before(k: usize) -> u8 {
 }
 
 // What the first places of a state have left.
-fn numbers_left(out: &mut [u8], at: usize, left: [u16; 64], count: usize) -> usize
+fn numbers_left(out: &mut [u8], at: usize, left: [u16; sheet::MOST_JOBS], count: usize) -> usize
     requires { ⌜ count ≤ mostJobs ⌝ }
 {
     let mut end = at;
@@ -254,7 +253,7 @@ fn numbers_left(out: &mut [u8], at: usize, left: [u16; 64], count: usize) -> usi
 }
 
 // What the places of a state have left, or `none`.
-fn places_of(out: &mut [u8], at: usize, left: [u16; 64]) -> usize {
+fn places_of(out: &mut [u8], at: usize, left: [u16; sheet::MOST_JOBS]) -> usize {
     let count = places_left(left);
     if count == 0 {
         return word(out, at, b" none");

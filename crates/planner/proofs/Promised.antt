@@ -6,7 +6,7 @@ use mathlib.Core.List.{List}
 use lib.Dec.{eqb}
 use lib.ListN.{length}
 use borrow.Author.Tests.{eq-eqb, ne-eqb}
-use Rattle.sheet.specs.HandedIn.{HandedIn, onSheet, onTable, checkSays, dayIn}
+use Rattle.sheet.specs.HandedIn.{HandedIn, onSheet, onTable, checkSays}
 use Rattle.sheet.specs.Paper.{Paper, gives, _when_, _else_, whereGiven}
 use Rattle.sheet.specs.Refusals.{refusalSays, outcomeSays}
 use Rattle.sheet.specs.Table.{Day, dayOf}

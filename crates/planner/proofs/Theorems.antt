@@ -6,15 +6,15 @@ use mathlib.Core.Logic.{_↔_, Iff·trans}
 use mathlib.Core.List.{List}
 use lib.Dec.{eqb}
 use lib.ListN.{length}
-use Rattle.sheet.specs.HandedIn.{HandedIn, onSheet, onTable, dayIn, Sound, states}
-use Rattle.sheet.specs.Paper.{Paper, gives, refuses, refusesAt}
+use Rattle.sheet.specs.HandedIn.{HandedIn, onSheet, onTable, checkSays, dayIn, Sound, states}
+use Rattle.sheet.specs.Paper.{Paper, gives, refuses, refusesAt, _when_, _else_}
 use Rattle.sheet.specs.Sheet.{slotsIn, tableIn}
 use Rattle.sheet.specs.Table.{dayOf}
 use Rattle.sheet.specs.WellFormed.{GoodDay, WellFormed, sheetStates, tableStates, GivenFirst}
 use Rattle.sheet.specs.declared.Refusal.{Refusal}
 use Rattle.sheet.specs.declared.Table.{Table}
-use Rattle.sheet.proofs.HandedIn.{handed-on-exactly, asked-exactly}
-use Rattle.sheet.proofs.Order.{Refuses, where-refused}
+use Rattle.sheet.proofs.HandedIn.{check-leaves, handed-on-exactly, asked-exactly}
+use Rattle.sheet.proofs.Order.{Refuses, else-gave, gives-one, where-given, where-refused}
 use Rattle.sheet.proofs.Refusals.{byRefusal, by-refusal, refusal-refuses, sheetHas, own-given, own-else}
 use Rattle.sheet.proofs.Stated.{differs, with-place}
 use Rattle.demand.specs.Search.{overloadSays}
@@ -79,6 +79,25 @@ module _ (h : HandedIn) (plan : List ℕ) (r : Planned) (after : List ℕ) (plan
 
   pub wrong-plan-leaves-the-buffer : r ≡ WrongPlan → after ≡ plan
   wrong-plan-leaves-the-buffer e = left-as-it-was (rw e tt)
+
+  -- where a verdict is given, what was handed in is sound, the verdict is the day's, and the buffer is left by it
+  pub verdict-given : (v : Verdict) → plannedSays r ≡ gives v → Sound h × (verdictOf (dayIn h) ≡ v) × (after ≡ bufferBy v (planOf (dayIn h)) plan)
+  unfolding planFor planLeft
+  verdict-given v e =
+      let d = dayIn h in
+      let says : planFor h plan ≡ gives v = sym (planned .answer) ∙ e in
+      let first = else-gave (checkSays h) (wrongPlan when not (eqb (length plan) (d .table .slots)) else gives (verdictOf d)) v says in
+      let verdict = gives-one _ _ (else-gave (wrongPlan when not (eqb (length plan) (d .table .slots))) (gives (verdictOf d)) v (first .1) .1) in (
+        check-leaves h .0 (first .0),
+        verdict,
+        planned .buffer
+            ∙ where-given (planFor h plan) v (bufferBy (verdictOf d) (planOf d) plan) plan says
+            ∙ ap (λ (w : Verdict). bufferBy w (planOf d) plan) verdict,
+      )
+
+  -- and it is what it was where an overloaded interval is named, too
+  pub overloaded-plan-leaves-the-buffer : (o : Overload) → r ≡ Overloaded o → after ≡ plan
+  overloaded-plan-leaves-the-buffer o e = verdict-given (overloaded (overloadSays o)) (ap plannedSays e) .2
 
 -- ---- the two ways in, each under its own name
 

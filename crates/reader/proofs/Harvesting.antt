@@ -6,7 +6,7 @@ use mathlib.Core.Logic.{⊎-elim}
 use native.Mathlib.Omega.{arith}
 use lib.ListN.{length}
 use borrow.Author.Tests.{le-leb}
-use Rattle.sheet.specs.HandedIn.{onSheet, onTable, checkSays, dayIn}
+use Rattle.sheet.specs.HandedIn.{onSheet, checkSays, dayIn}
 use Rattle.sheet.specs.Paper.{gives}
 use Rattle.sheet.specs.Refusals.{refusalSays, outcomeSays}
 use Rattle.sheet.specs.Sheet.{recordLength, sheetSays, tableIn, jobsIn, slotsIn, harvestIn}

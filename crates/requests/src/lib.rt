@@ -179,8 +179,8 @@ fn job_at(bytes: &[u8], at: usize) -> Job {
 }
 
 // The first `given` places hold the jobs of a table, and the others zeros.
-fn jobs_in(payload: &[u8], given: usize) -> [Job; 64] {
-    let mut jobs = [NO_JOB; 64];
+fn jobs_in(payload: &[u8], given: usize) -> [Job; sheet::MOST_JOBS] {
+    let mut jobs = [NO_JOB; sheet::MOST_JOBS];
     let mut k = 0;
     while k < sheet::MOST_JOBS {
         if k < given {
@@ -207,8 +207,8 @@ pub fn harvest_in(payload: &[u8]) -> &[u8] {
 }
 
 // What each of 64 places has left, in the bytes of a state.
-pub fn left_in(state: &[u8]) -> [u16; 64] {
-    let mut left = [0u16; 64];
+pub fn left_in(state: &[u8]) -> [u16; sheet::MOST_JOBS] {
+    let mut left = [0u16; sheet::MOST_JOBS];
     for k in 0..sheet::MOST_JOBS {
         left[k] = u16_at(state, LEFT_FROM + SHORT * k);
     }

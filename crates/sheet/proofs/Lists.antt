@@ -10,10 +10,6 @@ use lib.ListN.{length, getD, take, drop, set, replicate, length-append, length-d
 use lib.Seq.{set-at, getD-at, append-snoc, take-suc, drop-cons, getD-drop}
 use Rattle.sheet.specs.Lists.{joined, filled}
 
-pub joined-none : {X : Type 0} (f : ℕ → List X) → joined f 0 ≡ []
-unfolding joined
-joined-none f = refl
-
 pub joined-more : {X : Type 0} (f : ℕ → List X) (n : ℕ) → joined f (n + 1) ≡ joined f n ++ f n
 unfolding joined
 joined-more f n = ap (joined f) (add-one n)
@@ -100,12 +96,6 @@ over-more {X} f l n h =
     ∙ set-at front _ (drop (suc n) l) (f n) n (listed-length f n)
     ∙ sym (append-snoc front (f n) (drop (suc n) l))
     ∙ ap₂ (λ (a : List X) (k : ℕ). a ++ drop k l) (sym (joined-more (λ k. f k ∷ []) n)) (sym (add-one n))
-
-pub over-length : {X : Type 0} (f : ℕ → X) (l : List X) (n : ℕ) → n ≤ length l → length (over f l n) ≡ length l
-over-length f l n h =
-    let a = listed-length f n in
-    let b = length-drop n l in
-    length-append (joined (λ k. f k ∷ []) n) (drop n l) ∙ omega arith
 
 -- once all places are overwritten
 pub over-all : {X : Type 0} (f : ℕ → X) (l : List X) (n : ℕ) → length l ≡ n → over f l n ≡ joined (λ k. f k ∷ []) n

@@ -6,8 +6,7 @@ use native.Mathlib.Nat.{not-suc-le-zero}
 use native.Mathlib.Numerals.{add-one}
 use native.Mathlib.Decide.{decLt}
 use native.Mathlib.Omega.{arith}
-use mathlib.Core.Bool.{Bool, true, false}
-use Rattle.sheet.specs.Paper.{Paper, Check, gives, refuses, refusesAt, _when_, _else_, whereGiven, inOrder}
+use Rattle.sheet.specs.Paper.{Paper, Check, gives, refuses, refusesAt, _else_, whereGiven, inOrder}
 
 -- an answer that refuses
 abbrev pub Refuses : {A : Type 0} → Paper A → Type 0
@@ -34,10 +33,9 @@ else-gave (gives x) b z e = (refl, e)
 else-gave (refuses n) b z e = absurd (subst Refuses e tt)
 else-gave (refusesAt n place) b z e = absurd (subst Refuses e tt)
 
--- a test that gives leave failed
-pub when-gave : (refusal : Check) (b : Bool) → Refuses refusal → (refusal when b) ≡ gives tt → b ≡ false
-when-gave refusal true r e = absurd (subst Refuses e r)
-when-gave refusal false r e = refl
+-- and that is one thing
+pub gives-one : {A : Type 0} (x y : A) → gives x ≡ gives y → x ≡ y
+gives-one x y e = cc
 
 -- where nothing is given
 pub where-given : {A X : Type 0} (a : Paper A) (z : A) (x y : X) → a ≡ gives z → whereGiven a x y ≡ x

@@ -97,11 +97,6 @@ some-where test (suc n) e =
     (either (some test n)))
     (either (test n))
 
--- none passes
-pub some-not : (test : ℕ → Bool) (n : ℕ) → ((k : ℕ) → k < n → test k ≡ false) → some test n ≡ false
-some-not test n none =
-    ⊎-elim (λ s. let w = some-where test n s in absurd (never-both (w .2) (none (w .0) (w .1)))) (λ f. f) (either (some test n))
-
 pub not-some : (test : ℕ → Bool) (n k : ℕ) → some test n ≡ false → k < n → test k ≡ false
 not-some test n k e h = ⊎-elim (λ t. absurd (never-both (some-here test n k h t) e)) (λ f. f) (either (test k))
 

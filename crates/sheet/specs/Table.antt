@@ -1,4 +1,4 @@
--- A table and a harvest: the day, what is well formed in it, and which refusals apply.
+-- A table and a harvest: the day, what a harvest byte counts for, and which refusals apply.
 use Prim.Native.Nat.{ℕ, _*_}
 use mathlib.Core.List.{List}
 use mathlib.Core.Bool.{Bool, false, not, _||_}

@@ -1,5 +1,5 @@
 -- "Well formed" and "stated", in words: what a good table and a good sheet are, and when each refusal is stated.
--- The theorems that the checks say precisely this stand in `proofs/Theorems.antt`.
+-- That the checks say precisely this is proved in `proofs/Theorems.antt` of the crates `sheet`, for tables, and `reader`, for sheets.
 use Prim.Native.Nat.{ℕ, _+_, _-_, _*_, _≤_, _<_}
 use mathlib.Core.Path.{_≡_}
 use mathlib.Core.List.{List}

@@ -1,14 +1,14 @@
 -- The promises of the first state and of a step, at each of their answers.
-use Prim.Native.Nat.{ℕ, _<_, _≤_}
+use Prim.Native.Nat.{_<_, _≤_}
 use mathlib.Core.Path.{_≡_, sym, ap, _∙_}
 use borrow.Author.Tests.{lt-ltb, le-ltb}
-use Rattle.sheet.specs.HandedIn.{HandedIn, checkSays, dayIn, Sound}
+use Rattle.sheet.specs.HandedIn.{HandedIn, checkSays, dayIn}
 use Rattle.sheet.specs.Paper.{gives}
 use Rattle.sheet.specs.Refusals.{outcomeSays}
 use Rattle.sheet.specs.declared.Refusal.{Refusal}
 use Rattle.sheet.specs.declared.Outcome.{Outcome}
 use Rattle.sheet.specs.declared.Outcome.the-variants as Outcome
-use Rattle.sheet.proofs.HandedIn.{check-leaves, hands-on}
+use Rattle.sheet.proofs.HandedIn.{hands-on}
 use Rattle.sheet.proofs.Order.{where-given, where-refused}
 use Rattle.sheet.proofs.Refusals.{says-refuses, says-gives}
 use Rattle.slot_run.specs.declared.State.{State}

@@ -1,7 +1,7 @@
 -- Each rule, from what its tests showed; and what holds of any slot of a checked day.
 use Prim.Native.Nat.{ℕ, min, _+_, _-_, _<_, _≤_}
 use mathlib.Core.Path.{_≡_, refl, sym, ap, _∙_, subst}
-use mathlib.Core.Bool.{true, false, _&&_}
+use mathlib.Core.Bool.{Bool, true, false, cond, _&&_}
 use mathlib.Core.Logic.{⊎-elim}
 use mathlib.Core.List.{List}
 use native.Mathlib.Omega.{arith}
@@ -25,29 +25,36 @@ use Rattle.sheet.proofs.Exactly.{either}
 use Rattle.sheet.proofs.Words.{and-right}
 use Rattle.slot_run.proofs.Choosing.{chosen-is}
 
+-- a test that holds gives the first, and one that does not the second
+first-of : (test : Bool) (x y : Ruled) → test ≡ true → cond test x y ≡ x
+first-of test x y e = ap (λ (b : Bool). cond b x y) e
+
+second-of : (test : Bool) (x y : Ruled) → test ≡ false → cond test x y ≡ y
+second-of test x y e = ap (λ (b : Bool). cond b x y) e
+
 module _ (d : Day) (s : State) (k : ℕ) where
   pub rule-2 : atHand d s < jobOf (d .table) k .energy → ruleFor d s k ≡ idle 2
   unfolding ruleFor
-  rule-2 a = rw (lt-ltb _ _ a)
+  rule-2 a = first-of _ _ _ (lt-ltb _ _ a)
 
   module _ (a : jobOf (d .table) k .energy ≤ atHand d s) where
     pub rule-3 : d .table .capacity < atHand d s → ruleFor d s k ≡ busy 3 k
     unfolding ruleFor
-    rule-3 b = rw (le-ltb _ _ a, lt-ltb _ _ b)
+    rule-3 b = second-of _ _ _ (le-ltb _ _ a) ∙ first-of _ _ _ (lt-ltb _ _ b)
 
     module _ (b : atHand d s ≤ d .table .capacity) where
       pub rule-4 : zeroOrLess (slackTime d s) ≡ true → ruleFor d s k ≡ busy 4 k
       unfolding ruleFor
-      rule-4 l = rw (le-ltb _ _ a, le-ltb _ _ b, l)
+      rule-4 l = second-of _ _ _ (le-ltb _ _ a) ∙ second-of _ _ _ (le-ltb _ _ b) ∙ first-of _ _ _ l
 
       module _ (l : zeroOrLess (slackTime d s) ≡ false) where
         pub rule-5 : isBelow (slackEnergy d s (deadlineOf d k)) (jobOf (d .table) k .energy) ≡ true → ruleFor d s k ≡ idle 5
         unfolding ruleFor
-        rule-5 e = rw (le-ltb _ _ a, le-ltb _ _ b, l, e)
+        rule-5 e = second-of _ _ _ (le-ltb _ _ a) ∙ second-of _ _ _ (le-ltb _ _ b) ∙ second-of _ _ _ l ∙ first-of _ _ _ e
 
         pub rule-6 : isBelow (slackEnergy d s (deadlineOf d k)) (jobOf (d .table) k .energy) ≡ false → ruleFor d s k ≡ busy 6 k
         unfolding ruleFor
-        rule-6 e = rw (le-ltb _ _ a, le-ltb _ _ b, l, e)
+        rule-6 e = second-of _ _ _ (le-ltb _ _ a) ∙ second-of _ _ _ (le-ltb _ _ b) ∙ second-of _ _ _ l ∙ second-of _ _ _ e
 
 -- ---- a busy slot
 

@@ -1,20 +1,16 @@
 -- What rules 4 and 5 ask, as the code asks it: without signs, of some job.
-use Prim.Native.Nat.{ℕ, _+_, _*_, _<_, _≤_}
-use mathlib.Core.Path.{_≡_, refl, sym, ap, ap₂, _∙_}
-use mathlib.Core.Bool.{Bool, true, false, cond, _&&_}
-use mathlib.Core.List.{List}
+use Prim.Native.Nat.{ℕ, _+_}
+use mathlib.Core.Path.{_≡_, sym, ap, _∙_}
+use mathlib.Core.Bool.{Bool, cond, _&&_}
 use native.Mathlib.Numerals.{add-one}
-use native.Mathlib.Omega.{arith}
 use lib.Dec.{ltb, leb, leb·suc-suc}
-use lib.ListN.{getD}
-use borrow.Author.Tests.{ltb-true, lt-ltb, le-ltb}
 use Rattle.sheet.specs.Sums.{some, harvestOf}
 use Rattle.sheet.specs.Table.{jobOf, costOf, Day}
 use Rattle.sheet.proofs.Sums.{some-same}
 use Rattle.slot_run.specs.declared.State.{State}
 use Rattle.slot_run.specs.Choosing.{deadlineOf, leftOf}
 use Rattle.slot_run.specs.Slack.{exactly, least, zeroOrLess, isBelow, wants, pending, slackTimeAt, slackTime, comesBefore, coming, slackEnergyAt, slackEnergy}
-use Rattle.slot_run.proofs.Least.{one-test, least-below, zero-or-less, below-one, below-two}
+use Rattle.slot_run.proofs.Least.{least-below, zero-or-less, below-one, below-two}
 
 below-suc : (a b : ℕ) → ltb a (b + 1) ≡ leb a b
 below-suc a b = ap (ltb a) (add-one b) ∙ leb·suc-suc a b

@@ -4,7 +4,7 @@ use super::Now;
 ghost use mathlib.Core.Path.{_≡_};
 ghost use mathlib.Core.Bool.{cond, _&&_};
 ghost use mathlib.Core.List.{[]};
-ghost use Prim.Native.Nat.{ℕ, _+_, _*_, _<_, _≤_};
+ghost use Prim.Native.Nat.{_+_, _*_, _<_, _≤_};
 ghost use lib.Dec.{ltb, leb};
 ghost use Rattle.sheet.specs.Sums.{mostCost};
 ghost use Rattle.sheet.specs.Table.{mostJobs, jobOf, Day};

@@ -10,9 +10,9 @@ use lib.Dec.{ltb}
 use borrow.Author.Tests.{le-ltb}
 use lib.ListN.{length, getD, take, drop, length-append, length-drop, take-append-drop, List·getD-append}
 use lib.Seq.{take-at, drop-at, take-add, take-all, drop-drop, getD-append-add}
-use Rattle.sheet.specs.HandedIn.{onSheet, onTable, checkSays}
+use Rattle.sheet.specs.HandedIn.{onTable, checkSays}
 use Rattle.sheet.specs.Lists.{joined}
-use Rattle.sheet.specs.Paper.{Paper, gives, _when_, _else_, whereGiven}
+use Rattle.sheet.specs.Paper.{gives, _when_, _else_}
 use Rattle.sheet.specs.Sheet.{u16, u16At, recordBytes, recordLength, trailerBytes, trailerLength, trailerAt, sheetBytes, sheetLength, markFirst, markSecond, harvestBack, firstJobBack, jobsIn, slotsIn, capacityIn, jobIn, lastByteIn, tableIn, harvestIn, sheetSays}
 use Rattle.sheet.specs.Table.{jobOf, dayOf}
 use Rattle.sheet.specs.WellFormed.{GoodJob, GoodDay, WellFormed, SameTable, Bytes}
@@ -21,7 +21,7 @@ use Rattle.sheet.specs.declared.Outcome.the-variants.{Accepted}
 use Rattle.sheet.specs.declared.Table.{Table}
 use Rattle.sheet.proofs.HandedIn.{check-leaves}
 use Rattle.sheet.proofs.Lists.{joined-same, stretch-joined}
-use Rattle.sheet.proofs.Order.{else-gave, where-given}
+use Rattle.sheet.proofs.Order.{else-gave, gives-one, where-given}
 use Rattle.sheet.proofs.Parts.{recordsOf, records-length, sheet-length}
 use Rattle.sheet.proofs.Refusals.{outcome-one, says-gives}
 use Rattle.sheet.proofs.Stated.{job-in-table, sheet-leaves}
@@ -311,14 +311,11 @@ wrote t harvest out after w n written e =
     let first = else-gave (checkSays h) (noRoom when ltb (length out) long else gives long) n says in
     let second = else-gave (noRoom when ltb (length out) long) (gives long) n (first .1) in
     let good : GoodDay (dayOf t harvest) = check-leaves h .0 (first .0) in
-    let same : long ≡ n = given-same long n (second .1) in (
+    let same : long ≡ n = gives-one long n (second .1) in (
       good,
       ap (take n) (written .buffer ∙ where-given (writeSays h out) n (sheetBytes t harvest ++ drop long out) out says)
           ∙ take-at (sheetBytes t harvest) (drop long out) n (sheet-length t harvest (good .harvest-fits) ∙ same),
     )
-  where
-    given-same : (x y : ℕ) → gives x ≡ gives y → x ≡ y
-    given-same x y p = cc
 
 -- "Reading what was written from an accepted table gives that table and harvest": where the writer answers a length, the reader accepts so many bytes
 -- of its buffer, and the table and the harvest that it hands back are those that were written

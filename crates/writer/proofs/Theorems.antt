@@ -8,7 +8,6 @@ use lib.ListN.{length, drop}
 use borrow.Author.Tests.{ltb-true, lt-ltb}
 use Rattle.sheet.specs.HandedIn.{HandedIn, dayIn, Sound, states}
 use Rattle.sheet.specs.Paper.{Paper, gives, refuses, refusesAt}
-use Rattle.sheet.specs.Refusals.{refusalSays}
 use Rattle.sheet.specs.Sheet.{sheetBytes}
 use Rattle.sheet.specs.WellFormed.{GivenFirst}
 use Rattle.sheet.specs.declared.Refusal.{Refusal}

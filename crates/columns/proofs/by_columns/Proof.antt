@@ -1,5 +1,5 @@
 -- The loop keeps: the columns hold the numbers of the jobs before k, and zeros in the other places.
-use Prim.Native.Nat.{min, _≤_, _<_, _-_}
+use Prim.Native.Nat.{min, _≤_, _-_}
 use mathlib.Core.Path.{_≡_, refl}
 use native.Mathlib.Omega.{arith}
 use Rattle.sheet.specs.Table.{mostJobs}

@@ -15,16 +15,30 @@ Inv-loop harvest plan t count got₀ level₀ i₀ i-end got level i = (count �
 abbrev μ-loop : tie.MeasureT-loop
 μ-loop harvest plan t count got₀ level₀ i₀ i-end got level i = i-end - i
 
+-- where the judging began, seen from the loop; the loop, seen from where a slot is read; and that, seen from where its job was judged
+abbrev began : tie.In-loop Inv-loop μ-loop → tie.Start Inv-loop μ-loop
+began c = c .before .before .before .before
+
+abbrev in-loop : tie.After-wide2 Inv-loop μ-loop → tie.In-loop Inv-loop μ-loop
+in-loop c = c .before .before .before .before .before
+
+abbrev told : tie.After-enum-told2 Inv-loop μ-loop → tie.After-wide2 Inv-loop μ-loop
+told c = c .before .before .before .before .before .before
+
+-- what the loop keeps as a slot is read
+abbrev kept : (c : tie.After-wide2 Inv-loop μ-loop)
+    → Kept (dayOf (began (in-loop c) .args .t1) (began (in-loop c) .args .harvest .now)) (began (in-loop c) .args .plan .now) (in-loop c .before .loop .got) (in-loop c .before .loop .level) (in-loop c .before .loop .i)
+kept c = in-loop c .before .loop .inv .3
+
 -- the slot as it is read
 slot-read : (c : tie.After-wide2 Inv-loop μ-loop)
-    → let at-loop = c .before .before .before .before .before .before in
-    let args = at-loop .before .before .before .args in
-    SlotRead (dayOf (args .t1) (args .harvest .now)) (args .plan .now) (at-loop .loop .level) (at-loop .loop .i) (getD (args .plan .now) (at-loop .loop .i) 0) (c .before .before .before .wide .result + c .wide2 .result)
+    → let at = in-loop c .before .loop in
+    let args = began (in-loop c) .args in
+    SlotRead (dayOf (args .t1) (args .harvest .now)) (args .plan .now) (at .level) (at .i) (getD (args .plan .now) (at .i) 0) (c .before .before .before .wide .result + c .wide2 .result)
 slot-read c =
-    let at-loop = c .before .before .before .before .before .before in
-    let start = at-loop .before .before .before in
+    let start = began (in-loop c) in
     let fits = start .pre .1 in
-    let below = c .before .before .before .before .before .loop-test .taken in
+    let below = in-loop c .loop-test .taken in
     record {
       few = start .pre .0 .few-jobs;
       in-day = omega arith;
@@ -39,44 +53,42 @@ loop-holds c = let args = c .before .before .args in (refl, refl, omega arith, k
 loop-again : tie.Need-loop-again Inv-loop μ-loop
 loop-again c =
     let read = c .before .before in
-    let at-loop = read .before .before .before .before .before .before in
-    let below = read .before .before .before .before .before .loop-test .taken in
-    (refl, refl, omega arith, kept-idle _ _ _ _ _ _ _ (at-loop .loop .inv .3) (slot-read read) _ (c .before .if1 .taken) (c .cut .ensures))
+    let below = in-loop read .loop-test .taken in
+    (refl, refl, omega arith, kept-idle _ _ _ _ _ _ _ (kept read) (slot-read read) _ (c .before .if1 .taken) (c .cut .ensures))
 
 cast-k : tie.Need-cast-k Inv-loop μ-loop
-cast-k c = let byte = c .before .before .before .before .before .shared-slice-known3 .given (c .before .before .before .before .before .before .before .loop .i) .fits in record { fits = omega arith }
+cast-k c =
+    let at = c .before .before .before .before .before in
+    let byte = at .shared-slice-known3 .given (at .before .before .loop .i) .fits in
+    record { fits = omega arith }
 
 returns : tie.Need-returns Inv-loop μ-loop
-returns c = let read = c .before .before in refused-stranger _ _ _ _ _ _ _ (read .before .before .before .before .before .before .loop .inv .3) (slot-read read) (c .before .if1 .left) (c .if2 .taken)
+returns c = let read = c .before .before in refused-stranger _ _ _ _ _ _ _ (kept read) (slot-read read) (c .before .if1 .left) (c .if2 .taken)
 
 returns-2 : tie.Need-returns-2 Inv-loop μ-loop
 returns-2 c =
     let read = c .before .before .before .before .before .before in
-    let job = c .before .before in
-    refused-job _ _ _ _ _ _ _ (read .before .before .before .before .before .before .loop .inv .3) (slot-read read) (c .before .before .before .before .if2 .left) _ (job .judge-job .ensures) _ (c .enum-told .given .1)
+    refused-job _ _ _ _ _ _ _ (kept read) (slot-read read) (c .before .before .before .before .if2 .left) _ (c .before .before .judge-job .ensures) _ (c .enum-told .given .1)
 
 -- a busy slot's job, where nothing is found against it
 judged : (c : tie.After-enum-told2 Inv-loop μ-loop)
-    → let read = c .before .before .before .before .before .before in
-    let at-loop = read .before .before .before .before .before .before in
-    let args = at-loop .before .before .before .args in
-    let k = getD (args .plan .now) (at-loop .loop .i) 0 in
-    (getD (at-loop .loop .got) k 0 < jobOf (args .t1) k .wanted) × (jobOf (args .t1) k .energy ≤ c .before .before .before .before .before .before .before .before .before .wide .result + read .wide2 .result)
+    → let read = told c in
+    let at = in-loop read .before .loop in
+    let args = began (in-loop read) .args in
+    let k = getD (args .plan .now) (at .i) 0 in
+    (getD (at .got) k 0 < jobOf (args .t1) k .wanted) × (jobOf (args .t1) k .energy ≤ read .before .before .before .wide .result + read .wide2 .result)
 judged c =
-    let read = c .before .before .before .before .before .before in
-    let kept = read .before .before .before .before .before .before .loop .inv .3 in
+    let read = told c in
     let h = c .before .before .before .before .if2 .left in
     let said = c .before .before .judge-job .ensures in
     let nothing = c .enum-told2 .given .1 in (
-      gets-more _ _ _ _ _ _ _ kept (slot-read read) h _ said nothing,
-      is-paid _ _ _ _ _ _ _ kept (slot-read read) h _ said nothing,
+      gets-more _ _ _ _ _ _ _ (kept read) (slot-read read) h _ said nothing,
+      is-paid _ _ _ _ _ _ _ (kept read) (slot-read read) h _ said nothing,
     )
 
 add-got : tie.Need-add-got Inv-loop μ-loop
 add-got c =
-    let at-loop = c .before .before .before .before .before .before .before .before .before .before .before .before in
-    let start = at-loop .before .before .before in
-    let few = start .pre .0 .good-jobs _ (c .before .before .before .before .if2 .left) .wants-at-most in
+    let few = began (in-loop (told c)) .pre .0 .good-jobs _ (c .before .before .before .before .if2 .left) .wants-at-most in
     let more = judged c .0 in
     record { fits = omega arith }
 
@@ -88,13 +100,13 @@ sub-cut c =
 
 loop-again-2 : tie.Need-loop-again-2 Inv-loop μ-loop
 loop-again-2 c =
-    let read = c .before .before .before .before .before .before .before .before in
     let job = c .before .before in
-    let below = read .before .before .before .before .before .loop-test .taken in (
+    let read = told job in
+    let below = in-loop read .loop-test .taken in (
       refl,
       refl,
       omega arith,
-      kept-busy _ _ _ _ _ _ _ (read .before .before .before .before .before .before .loop .inv .3) (slot-read read) (job .before .before .before .before .if2 .left) _ (job .before .before .judge-job .ensures) (job .enum-told2 .given .1) _ _
+      kept-busy _ _ _ _ _ _ _ (kept read) (slot-read read) (job .before .before .before .before .if2 .left) _ (job .before .before .judge-job .ensures) (job .enum-told2 .given .1) _ _
           (c .before .widened .ensures .0) (c .cut2 .ensures),
     )
 

@@ -1,6 +1,5 @@
 -- What the step makes for itself shows the day, so the slot that is taken is the step's.
 use mathlib.Core.Path.{refl}
-use native.Mathlib.Omega.{arith}
 use Rattle.sheet.specs.HandedIn.{onTable}
 use Rattle.sheet.proofs.HandedIn.{check-leaves}
 use Rattle.slot_run.proofs.Lending.{shows}

@@ -1,5 +1,5 @@
 -- The loop keeps: the sum is that of the jobs before i, for whatever day is shown. Energies are bytes, so no cost and no sum goes astray.
-use Prim.Native.Nat.{ℕ, _≤_, _-_, _*_}
+use Prim.Native.Nat.{_≤_, _-_, _*_}
 use mathlib.Core.Path.{_≡_, sym, _∙_}
 use mathlib.Core.List.{[]}
 use native.Mathlib.Omega.{arith}

@@ -1,6 +1,6 @@
 -- The loop keeps: the sum is that of the jobs before i, for whatever day is shown.
-use Prim.Native.Nat.{ℕ, _≤_, _-_, _*_}
-use mathlib.Core.Path.{_≡_, sym, ap, _∙_}
+use Prim.Native.Nat.{_≤_, _-_, _*_}
+use mathlib.Core.Path.{_≡_, sym}
 use native.Mathlib.Omega.{arith}
 use Rattle.sheet.specs.Sums.{total}
 use Rattle.sheet.specs.Table.{Day}
