@@ -12,7 +12,7 @@ use Rattle.sheet.specs.Table.{jobOf, Day}
 use Rattle.sheet.specs.WellFormed.{GoodDay, GivenFirst}
 use Rattle.sheet.specs.declared.Refusal.{Refusal}
 use Rattle.sheet.proofs.HandedIn.{sound-day, handed-on-exactly, own-exactly}
-use Rattle.sheet.proofs.Refusals.{byRefusal, by-refusal, own-given}
+use Rattle.sheet.proofs.Refusals.{byRefusal, by-refusal, said-one, said-exactly, own-given}
 use Rattle.demand.specs.Demand.{kindNumber, demandOf, supplyOf, Overloaded}
 use Rattle.demand.specs.Search.{Interval, overloadSays, Answer, overloaded-is, none-is, foundSays, searchedSays, intervalOf, isRelease, isDeadline, firstOverload, smallestEnd, searchOf, Searches}
 use Rattle.demand.specs.declared.Kind.{Kind}
@@ -187,7 +187,7 @@ searched-back (Searched.Overloaded o) = ap Searched.Overloaded (overload-back o)
 searched-back Searched.Clear = refl
 
 pub says-one : (r q : Searched) → searchedSays r ≡ searchedSays q → r ≡ q
-says-one r q e = sym (searched-back r) ∙ ap searchedMeant e ∙ searched-back q
+says-one = said-one searchedSays searchedMeant searched-back
 
 -- ---- the theorems
 
@@ -197,7 +197,7 @@ one-result {h} {r} {q} p s = says-one r q (p .answer ∙ sym (s .answer))
 
 module _ (h : HandedIn) (r : Searched) (promised : Searches h r) where
   answered : (q : Searched) → (r ≡ q) ↔ (searchOf h ≡ searchedSays q)
-  answered q = ((λ e. sym (promised .answer) ∙ ap searchedSays e), (λ e. says-one r q (promised .answer ∙ e)))
+  answered q = said-exactly searchedSays searchedMeant searched-back r q _ (promised .answer)
 
   -- a refusal is answered exactly when it is stated and nothing earlier applies
   pub search-refused-exactly : (why : Refusal) → (r ≡ Searched.Refused why) ↔ GivenFirst (states h) why

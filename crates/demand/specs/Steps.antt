@@ -20,17 +20,24 @@ pub record Lent (d : Day) (columns totals : List ℕ) : Type 0 where
   pub summed : Summed d totals
   pub columns-are : ColumnsOf (d .table) columns
 
--- what each of the first n jobs demands of a kind where it is due by an end: the slots of job k at k, their cost at 64 + k
+-- where the costs begin, behind the slots, in what the jobs that are due by an end demand, and how long that is
+abbrev pub costsFrom : ℕ
+costsFrom = 64
+
+abbrev pub dueLength : ℕ
+dueLength = 128
+
+-- what each of the first n jobs demands of a kind where it is due by an end
 abbrev pub dueAt : Kind → ℕ → ℕ
 dueAt Time k = k
-dueAt Energy k = 64 + k
+dueAt Energy k = costsFrom + k
 
 abbrev pub mostDue : Kind → ℕ
 mostDue Time = 65535
 mostDue Energy = mostCost
 
 pub record DueBy (t : Table) (n to : ℕ) (due : List ℕ) : Type 0 where
-  pub long : length due ≡ 128
+  pub long : length due ≡ dueLength
   pub share : (kind : Kind) (k : ℕ) → k < n → getD due (dueAt kind k) 0 ≡ cond (leb (jobOf t k .deadline) to) (shareOf kind (jobOf t k)) 0
   pub small : (kind : Kind) (k : ℕ) → k < n → getD due (dueAt kind k) 0 ≤ mostDue kind
 

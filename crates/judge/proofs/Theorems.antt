@@ -15,7 +15,7 @@ use Rattle.sheet.specs.WellFormed.{GoodDay, WellFormed, sheetStates, tableState
 use Rattle.sheet.specs.declared.Refusal.{Refusal}
 use Rattle.sheet.specs.declared.Table.{Table}
 use Rattle.sheet.proofs.HandedIn.{check-leaves, handed-on-exactly, own-exactly}
-use Rattle.sheet.proofs.Refusals.{byRefusal, by-refusal, sheetHas, Own, own-given, own-number, own-else}
+use Rattle.sheet.proofs.Refusals.{byRefusal, by-refusal, said-one, said-exactly, sheetHas, Own, own-given, own-number, own-else}
 use Rattle.demand.specs.Demand.{overloaded}
 use Rattle.judge.specs.Evidence.{AcceptablePlan, AcceptableClaim}
 use Rattle.judge.specs.Judge.{planSays, judgedPlan, kindOf, claimFault, claimSays, judgedClaim, sumsOf, judgedSums}
@@ -50,27 +50,27 @@ ownPlan (gives x) = Plan.Accepted
 ownPlan (refuses n) = Plan.Faulty (faultMeant (refuses n))
 ownPlan (refusesAt n k) = Plan.Faulty (faultMeant (refusesAt n k))
 
-plan-one : (r q : JudgedPlan) → planAnswered r ≡ planAnswered q → r ≡ q
-unfolding byRefusal ownPlan faultMeant
-plan-one r q e = sym (meant r) ∙ ap (λ (a : Check). byRefusal Plan.Refused (ownPlan a) a) e ∙ meant q
-  where
-    meant : (p : JudgedPlan) → byRefusal Plan.Refused (ownPlan (planAnswered p)) (planAnswered p) ≡ p
-    meant (Plan.Refused why) = by-refusal _ Plan.Refused _ why
-    meant (Plan.Faulty WrongLength) = refl
-    meant (Plan.Faulty (NoJob i)) = refl
-    meant (Plan.Faulty (OutsideWindow i)) = refl
-    meant (Plan.Faulty (HasAllSlots i)) = refl
-    meant (Plan.Faulty (LacksCharge i)) = refl
-    meant (Plan.Faulty (LacksSlots k)) = refl
-    meant Plan.Accepted = refl
+planMeant : Check → JudgedPlan
+planMeant a = byRefusal Plan.Refused (ownPlan a) a
+
+plan-back : (p : JudgedPlan) → planMeant (planAnswered p) ≡ p
+unfolding planMeant byRefusal ownPlan faultMeant
+plan-back (Plan.Refused why) = by-refusal _ Plan.Refused _ why
+plan-back (Plan.Faulty WrongLength) = refl
+plan-back (Plan.Faulty (NoJob i)) = refl
+plan-back (Plan.Faulty (OutsideWindow i)) = refl
+plan-back (Plan.Faulty (HasAllSlots i)) = refl
+plan-back (Plan.Faulty (LacksCharge i)) = refl
+plan-back (Plan.Faulty (LacksSlots k)) = refl
+plan-back Plan.Accepted = refl
 
 -- any two results that the promise allows are equal
 pub one-judgement : {h : HandedIn} {plan : List ℕ} {r q : JudgedPlan} → JudgesPlan h plan r → JudgesPlan h plan q → r ≡ q
-one-judgement {r = r} {q = q} a b = plan-one r q (a .answer ∙ sym (b .answer))
+one-judgement {r = r} {q = q} a b = said-one planAnswered planMeant plan-back r q (a .answer ∙ sym (b .answer))
 
 module _ (h : HandedIn) (plan : List ℕ) (r : JudgedPlan) (judged : JudgesPlan h plan r) where
   plan-is : (q : JudgedPlan) → (r ≡ q) ↔ (judgedPlan h plan ≡ planAnswered q)
-  plan-is q = ((λ e. sym (judged .answer) ∙ ap planAnswered e), (λ e. plan-one r q (judged .answer ∙ e)))
+  plan-is q = said-exactly planAnswered planMeant plan-back r q _ (judged .answer)
 
   plan-own : Own (planSays (dayIn h) plan)
   plan-own q e = ⊎-elim (λ c. own-given tt q (sym (c .0) ∙ e)) (λ w. own-fault (w .0) q (sym (w .1) ∙ e)) (decided (dayIn h) plan)

@@ -15,7 +15,7 @@ use Rattle.sheet.specs.declared.Refusal.{Refusal}
 use Rattle.sheet.specs.declared.Table.{Table}
 use Rattle.sheet.proofs.HandedIn.{check-leaves, handed-on-exactly, asked-exactly}
 use Rattle.sheet.proofs.Order.{Refuses, else-gave, gives-one, where-given, where-refused}
-use Rattle.sheet.proofs.Refusals.{byRefusal, by-refusal, refusal-refuses, sheetHas, own-given, own-else}
+use Rattle.sheet.proofs.Refusals.{byRefusal, by-refusal, said-one, said-exactly, refusal-refuses, sheetHas, own-given, own-else}
 use Rattle.sheet.proofs.Stated.{differs, with-place}
 use Rattle.demand.specs.Search.{overloadSays}
 use Rattle.demand.specs.declared.Overload.{Overload}
@@ -35,23 +35,23 @@ ownMeant (gives (undecided k)) = Undecided k
 ownMeant (refuses n) = WrongPlan
 ownMeant (refusesAt n k) = WrongPlan
 
-says-one-answer : (r q : Planned) → plannedSays r ≡ plannedSays q → r ≡ q
-unfolding byRefusal ownMeant
-says-one-answer r q e = sym (meant r) ∙ ap (λ (a : Paper Verdict). byRefusal Refused (ownMeant a) a) e ∙ meant q
-  where
-    meant : (p : Planned) → byRefusal Refused (ownMeant (plannedSays p)) (plannedSays p) ≡ p
-    meant (Refused why) = by-refusal Verdict Refused _ why
-    meant WrongPlan = refl
-    meant (Overloaded o) = ap Overloaded (overload-back o)
-    meant Met = refl
-    meant (Undecided k) = refl
+meant : Paper Verdict → Planned
+meant a = byRefusal Refused (ownMeant a) a
+
+back : (p : Planned) → meant (plannedSays p) ≡ p
+unfolding meant byRefusal ownMeant
+back (Refused why) = by-refusal Verdict Refused _ why
+back WrongPlan = refl
+back (Overloaded o) = ap Overloaded (overload-back o)
+back Met = refl
+back (Undecided k) = refl
 
 pub one-plan : {h : HandedIn} {plan after after′ : List ℕ} {r q : Planned} → Plans h plan r after → Plans h plan q after′ → (r ≡ q) × (after ≡ after′)
-one-plan {r = r} {q = q} a b = (says-one-answer r q (a .answer ∙ sym (b .answer)), a .buffer ∙ sym (b .buffer))
+one-plan {r = r} {q = q} a b = (said-one plannedSays meant back r q (a .answer ∙ sym (b .answer)), a .buffer ∙ sym (b .buffer))
 
 module _ (h : HandedIn) (plan : List ℕ) (r : Planned) (after : List ℕ) (planned : Plans h plan r after) where
   as-said : (q : Planned) → (r ≡ q) ↔ (planFor h plan ≡ plannedSays q)
-  as-said q = ((λ e. sym (planned .answer) ∙ ap plannedSays e), (λ e. says-one-answer r q (planned .answer ∙ e)))
+  as-said q = said-exactly plannedSays meant back r q _ (planned .answer)
 
   -- 1 to 6 are given exactly when each is stated and nothing earlier applies
   pub plan-refused-exactly : (why : Refusal) → (r ≡ Refused why) ↔ GivenFirst (states h) why

@@ -16,7 +16,7 @@ use Rattle.sheet.specs.declared.Refusal.{Refusal}
 use Rattle.sheet.specs.declared.Table.{Table}
 use Rattle.sheet.proofs.Exactly.{leave-or-refusal}
 use Rattle.sheet.proofs.Order.{else-goes-on}
-use Rattle.sheet.proofs.Refusals.{Own, own-number, sheetHas, refusal-one, refusal-stays, outcome-one, says-gives}
+use Rattle.sheet.proofs.Refusals.{Own, own-number, sheetHas, refusal-one, refusal-stays, outcome-exactly}
 use Rattle.sheet.proofs.Stated.{sheet-leaves, sheet-refuses, table-leaves, table-refuses}
 
 -- ---- what the check says
@@ -74,12 +74,10 @@ module _ (h : HandedIn) {A : Type 0} (rest : Paper A) where
 
 module _ (h : HandedIn) (o : Outcome) (said : outcomeSays o ≡ checkSays h) where
   pub outcome-accepted-exactly : (o ≡ Accepted) ↔ Sound h
-  outcome-accepted-exactly =
-      Iff·trans ((λ e. says-gives o _ e said), (λ e. outcome-one o Accepted (said ∙ e))) (check-leaves h)
+  outcome-accepted-exactly = Iff·trans (outcome-exactly o Accepted _ said) (check-leaves h)
 
   pub outcome-refused-exactly : (r : Refusal) → (o ≡ Refused r) ↔ GivenFirst (states h) r
-  outcome-refused-exactly r =
-      Iff·trans ((λ e. sym said ∙ ap outcomeSays e), (λ e. outcome-one o (Refused r) (said ∙ e))) (check-refuses h r)
+  outcome-refused-exactly r = Iff·trans (outcome-exactly o (Refused r) _ said) (check-refuses h r)
 
   -- past the check the day is well formed
   pub checked-good : o ≡ Accepted → GoodDay (dayIn h)

@@ -2,6 +2,7 @@
 use Prim.Native.Nat.{ℕ}
 use mathlib.Core.Path.{_≡_, refl, sym, ap, _∙_, subst}
 use mathlib.Core.Bool.{Bool, true, false, cond, _||_}
+use mathlib.Core.Logic.{_↔_}
 use native.Mathlib.Omega.{arith}
 use lib.Dec.{eqb}
 use Rattle.sheet.specs.Paper.{Paper, Check, gives, refuses, refusesAt, _when_, _else_, whereGiven, numberOf}
@@ -69,18 +70,32 @@ sheet-has Layout = refl
 sheet-has (Window k) = refl
 sheet-has (Work k) = refl
 
+-- ---- a call's answers, and what they say, where what is said means one answer
+
+module _ {A R : Type 0} (says : R → Paper A) (meant : Paper A → R) (back : (r : R) → meant (says r) ≡ r) where
+  -- two answers that say the same are one
+  pub said-one : (r q : R) → says r ≡ says q → r ≡ q
+  said-one r q e = sym (back r) ∙ ap meant e ∙ back q
+
+  -- an answer that says what is defined is q exactly when that is defined which q says
+  pub said-exactly : (r q : R) (defined : Paper A) → says r ≡ defined → (r ≡ q) ↔ (defined ≡ says q)
+  said-exactly r q defined said = ((λ e. sym said ∙ ap says e), (λ e. said-one r q (said ∙ e)))
+
 -- ---- two refusals, or two outcomes, that the paper writes alike are one
 
 pub refusal-one : (A : Type 0) (r q : Refusal) → refusalSays {A = A} r ≡ refusalSays q → r ≡ q
-refusal-one A r q e = sym (by-refusal A (λ p. p) Short r) ∙ ap (byRefusal (λ p. p) Short) e ∙ by-refusal A (λ p. p) Short q
+refusal-one A = said-one refusalSays (byRefusal (λ p. p) Short) (by-refusal A (λ p. p) Short)
+
+outcome-back : (o : Outcome) → byRefusal Refused Accepted (outcomeSays o) ≡ o
+unfolding byRefusal
+outcome-back Accepted = refl
+outcome-back (Refused r) = by-refusal _ Refused Accepted r
 
 pub outcome-one : (o p : Outcome) → outcomeSays o ≡ outcomeSays p → o ≡ p
-unfolding byRefusal
-outcome-one o p e = sym (meant o) ∙ ap (byRefusal Refused Accepted) e ∙ meant p
-  where
-    meant : (q : Outcome) → byRefusal Refused Accepted (outcomeSays q) ≡ q
-    meant Accepted = refl
-    meant (Refused r) = by-refusal _ Refused Accepted r
+outcome-one = said-one outcomeSays (byRefusal Refused Accepted) outcome-back
+
+pub outcome-exactly : (o p : Outcome) (defined : Check) → outcomeSays o ≡ defined → (o ≡ p) ↔ (defined ≡ outcomeSays p)
+outcome-exactly = said-exactly outcomeSays (byRefusal Refused Accepted) outcome-back
 
 -- what an outcome that is a refusal says, refuses; and of one that is accepted, accepts
 pub says-refuses : (o : Outcome) (r : Refusal) (x : Check) → o ≡ Refused r → outcomeSays o ≡ x → Refuses x

@@ -15,7 +15,7 @@ use Rattle.sheet.specs.declared.Refusal.{Refusal}
 use Rattle.sheet.proofs.Exactly.{either}
 use Rattle.sheet.proofs.HandedIn.{check-leaves, check-refuses, handed-on-exactly, own-exactly, outcome-refused-exactly}
 use Rattle.sheet.proofs.Order.{Refuses, where-given, where-refused}
-use Rattle.sheet.proofs.Refusals.{byRefusal, by-refusal, refusal-refuses, outcome-one, own-given}
+use Rattle.sheet.proofs.Refusals.{byRefusal, by-refusal, said-one, said-exactly, refusal-refuses, outcome-one, own-given}
 use Rattle.slot_run.specs.declared.Choice.{Choice}
 use Rattle.slot_run.specs.declared.State.{State}
 use Rattle.slot_run.specs.declared.BusyWhy.the-variants.{Full, NoSlack, Free}
@@ -57,8 +57,11 @@ givenMeant (gives (ruled d)) = Decided (decisionMeant d)
 givenMeant (refuses n) = Over
 givenMeant (refusesAt n k) = Over
 
-stepped-meant : (a : Stepped) → byRefusal Refused (givenMeant (steppedSays a)) (steppedSays a) ≡ a
-unfolding givenMeant decisionMeant byRefusal
+steppedMeant : Paper Turn → Stepped
+steppedMeant p = byRefusal Refused (givenMeant p) p
+
+stepped-meant : (a : Stepped) → steppedMeant (steppedSays a) ≡ a
+unfolding steppedMeant givenMeant decisionMeant byRefusal
 stepped-meant (Refused r) = by-refusal _ Refused _ r
 stepped-meant Over = refl
 stepped-meant (Decided (Idle None)) = refl
@@ -68,12 +71,9 @@ stepped-meant (Decided (Busy k Full)) = refl
 stepped-meant (Decided (Busy k NoSlack)) = refl
 stepped-meant (Decided (Busy k Free)) = refl
 
-answer-one : (a b : Stepped) → steppedSays a ≡ steppedSays b → a ≡ b
-answer-one a b e = sym (stepped-meant a) ∙ ap (λ (p : Paper Turn). byRefusal Refused (givenMeant p) p) e ∙ stepped-meant b
-
 pub one-step : {h : HandedIn} {s : State} {r q : StepResult} → Steps h s r → Steps h s q → r ≡ q
 one-step {r = r} {q = q} a b =
-    let answer : r .answer ≡ q .answer = answer-one (r .answer) (q .answer) (a .answer ∙ sym (b .answer)) in
+    let answer : r .answer ≡ q .answer = said-one steppedSays steppedMeant stepped-meant (r .answer) (q .answer) (a .answer ∙ sym (b .answer)) in
     let state : r .state ≡ q .state = a .state ∙ sym (b .state) in
     λ i. record { answer = answer i; state = state i }
 
@@ -95,7 +95,7 @@ start-refused-exactly h r p = outcome-refused-exactly h (r .outcome) (p .answer)
 
 module _ (h : HandedIn) (s : State) (r : StepResult) (p : Steps h s r) where
   answered : (a : Stepped) → (r .answer ≡ a) ↔ (stepOf h s ≡ steppedSays a)
-  answered a = ((λ e. sym (p .answer) ∙ ap steppedSays e), (λ e. answer-one (r .answer) a (p .answer ∙ e)))
+  answered a = said-exactly steppedSays steppedMeant stepped-meant (r .answer) a _ (p .answer)
 
   -- and by a step.
   pub step-refused-exactly : (why : Refusal) → (r .answer ≡ Refused why) ↔ GivenFirst (states h) why

@@ -7,7 +7,7 @@ use lib.ListN.{getD}
 use lib.Dec.{ltb, leb}
 use Rattle.sheet.specs.Table.{Day}
 use Rattle.totals.specs.Totals.{Summed}
-use Rattle.columns.specs.Columns.{ColumnsOf}
+use Rattle.columns.specs.Columns.{deadlinesFrom, ColumnsOf}
 use Rattle.slot_run.specs.Rules.{atHand, decisionSays, decided, nextState}
 use Rattle.slot_run.specs.declared.Now.{Now}
 use Rattle.slot_run.specs.declared.State.{State}
@@ -38,7 +38,7 @@ pub record Takes (d : Day) (s : State) (r : Taken) (left : List ℕ) : Type 0 wh
 -- the two tests of a choice, ready or only slots still wanted, and the deadline, as they are read off columns
 abbrev pub passesIn : Bool → ℕ → List ℕ → List ℕ → ℕ → Bool
 passesIn only-ready slot jobs left k =
-    (not only-ready || (leb (getD jobs k 0) slot && ltb slot (getD jobs (64 + k) 0))) && ltb 0 (getD left k 0)
+    (not only-ready || (leb (getD jobs k 0) slot && ltb slot (getD jobs (deadlinesFrom + k) 0))) && ltb 0 (getD left k 0)
 
 abbrev pub deadlineIn : List ℕ → ℕ → ℕ
-deadlineIn jobs k = getD jobs (64 + k) 0
+deadlineIn jobs k = getD jobs (deadlinesFrom + k) 0

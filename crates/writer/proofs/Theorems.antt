@@ -1,6 +1,6 @@
 -- The theorems on the writer that are worth quoting, of any answer and buffer that its promise allows. (The round trips stand in the crate `theorems`.)
 use Prim.Native.Nat.{ℕ, _<_}
-use mathlib.Core.Path.{_≡_, refl, sym, ap, _∙_, subst}
+use mathlib.Core.Path.{_≡_, refl, sym, _∙_, subst}
 use mathlib.Core.List.{List, _++_}
 use mathlib.Core.Logic.{_↔_, Iff·trans}
 use lib.Dec.{ltb}
@@ -13,7 +13,7 @@ use Rattle.sheet.specs.WellFormed.{GivenFirst}
 use Rattle.sheet.specs.declared.Refusal.{Refusal}
 use Rattle.sheet.proofs.HandedIn.{handed-on-exactly, asked-exactly}
 use Rattle.sheet.proofs.Order.{Refuses, where-refused}
-use Rattle.sheet.proofs.Refusals.{byRefusal, by-refusal, refusal-refuses, sheetHas, own-given, own-else}
+use Rattle.sheet.proofs.Refusals.{byRefusal, by-refusal, said-one, said-exactly, refusal-refuses, sheetHas, own-given, own-else}
 use Rattle.sheet.proofs.Stated.{with-place}
 use Rattle.writer.specs.Promise.{noRoom, lengthFor, writeSays, bufferWritten, writtenSays, Writes}
 use Rattle.writer.specs.declared.Written.{Written}
@@ -26,21 +26,21 @@ ownMeant (gives n) = Length n
 ownMeant (refuses n) = NoRoom
 ownMeant (refusesAt n k) = NoRoom
 
-says-one-answer : (r q : Written) → writtenSays r ≡ writtenSays q → r ≡ q
-unfolding byRefusal ownMeant
-says-one-answer r q e = sym (meant r) ∙ ap (λ (a : Paper ℕ). byRefusal Refused (ownMeant a) a) e ∙ meant q
-  where
-    meant : (w : Written) → byRefusal Refused (ownMeant (writtenSays w)) (writtenSays w) ≡ w
-    meant (Length n) = refl
-    meant (Refused why) = by-refusal ℕ Refused _ why
-    meant NoRoom = refl
+meant : Paper ℕ → Written
+meant a = byRefusal Refused (ownMeant a) a
+
+back : (w : Written) → meant (writtenSays w) ≡ w
+unfolding meant byRefusal ownMeant
+back (Length n) = refl
+back (Refused why) = by-refusal ℕ Refused _ why
+back NoRoom = refl
 
 pub one-result : {h : HandedIn} {out after after′ : List ℕ} {r q : Written} → Writes h out r after → Writes h out q after′ → (r ≡ q) × (after ≡ after′)
-one-result {r = r} {q = q} a b = (says-one-answer r q (a .answer ∙ sym (b .answer)), a .buffer ∙ sym (b .buffer))
+one-result {r = r} {q = q} a b = (said-one writtenSays meant back r q (a .answer ∙ sym (b .answer)), a .buffer ∙ sym (b .buffer))
 
 module _ (h : HandedIn) (out : List ℕ) (r : Written) (after : List ℕ) (wrote : Writes h out r after) where
   as-said : (q : Written) → (r ≡ q) ↔ (writeSays h out ≡ writtenSays q)
-  as-said q = ((λ e. sym (wrote .answer) ∙ ap writtenSays e), (λ e. says-one-answer r q (wrote .answer ∙ e)))
+  as-said q = said-exactly writtenSays meant back r q _ (wrote .answer)
 
   -- 3 to 6 are given exactly when each is stated and nothing earlier applies
   pub write-refused-exactly : (why : Refusal) → (r ≡ Refused why) ↔ GivenFirst (states h) why
