@@ -21,11 +21,11 @@ use Rattle.demand.specs.declared.Found.the-variants as Found
 use Rattle.demand.specs.declared.Overload.{Overload}
 use Rattle.demand.specs.declared.Searched.{Searched}
 use Rattle.demand.specs.declared.Searched.the-variants as Searched
-use Rattle.slot_run.specs.Choosing.{unfinished}
-use Rattle.slot_run.specs.Rules.{stateAt}
-use Rattle.slot_run.specs.declared.Choice.{Choice}
-use Rattle.slot_run.specs.declared.Choice.the-variants.{Nobody, Job}
-use Rattle.slot_run.proofs.Choosing.{chosen-passes}
+use Rattle.choice.specs.Choosing.{unfinished}
+use Rattle.slot_run.specs.Run.{stateAt}
+use Rattle.choice.specs.declared.Choice.{Choice}
+use Rattle.choice.specs.declared.Choice.the-variants.{Nobody, Job}
+use Rattle.choice.proofs.Choosing.{chosen-passes}
 use Rattle.planner.specs.Plan.{undecided, byFound, byUnfinished, verdictOf}
 use Rattle.planner.specs.Promise.{plannedSays, Plans}
 use Rattle.planner.proofs.Theorems.{verdict-given}

@@ -8,8 +8,8 @@ use Rattle.reader.specs.Promise.{tableRead, harvestRead}
 use Rattle.writer.specs.Promise.{writeSays, bufferWritten}
 use Rattle.demand.specs.Search.{Interval, Answer, overloaded-is, none-is, searchOf}
 use Rattle.slot_run.specs.Promise.{noState, stateAfter}
-use Rattle.slot_run.specs.Rules.{firstState}
-use Rattle.slot_run.specs.declared.State.{State}
+use Rattle.slot_run.specs.Run.{firstState}
+use Rattle.choice.specs.declared.State.{State}
 use Rattle.judge.specs.declared.Sums.{Sums}
 use Rattle.judge.specs.Judge.{judgedPlan, judgedClaim, judgedSums}
 use Rattle.planner.specs.Plan.{Verdict, overloaded, met, undecided, planFor, planLeft}

@@ -24,10 +24,10 @@ use Rattle.demand.specs.Search.{firstOverload}
 use Rattle.demand.specs.declared.Found.{Found}
 use Rattle.demand.specs.declared.Found.the-variants as Found
 use Rattle.demand.specs.declared.Overload.{Overload}
-use Rattle.slot_run.specs.Choosing.{unfinished}
-use Rattle.slot_run.specs.Rules.{stateAt, planOf}
-use Rattle.slot_run.specs.declared.Choice.{Choice}
-use Rattle.slot_run.specs.declared.Choice.the-variants.{Nobody, Job}
+use Rattle.choice.specs.Choosing.{unfinished}
+use Rattle.slot_run.specs.Run.{stateAt, planOf}
+use Rattle.choice.specs.declared.Choice.{Choice}
+use Rattle.choice.specs.declared.Choice.the-variants.{Nobody, Job}
 use Rattle.planner.specs.Plan.{Verdict, byUnfinished, verdictOf, wrongPlan, planFor, bufferBy, planLeft}
 use Rattle.planner.specs.Promise.{Plans}
 use Rattle.planner.specs.declared.Planned.{Planned}

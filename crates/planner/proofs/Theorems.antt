@@ -20,7 +20,7 @@ use Rattle.sheet.proofs.Stated.{differs, with-place}
 use Rattle.demand.specs.Search.{overloadSays}
 use Rattle.demand.specs.declared.Overload.{Overload}
 use Rattle.demand.proofs.Theorems.{overloadMeant, overload-back}
-use Rattle.slot_run.specs.Rules.{planOf}
+use Rattle.slot_run.specs.Run.{planOf}
 use Rattle.planner.specs.Plan.{Verdict, overloaded, met, undecided, verdictOf, wrongPlan, planFor, bufferBy, planLeft}
 use Rattle.planner.specs.Promise.{plannedSays, Plans}
 use Rattle.planner.specs.declared.Planned.{Planned}

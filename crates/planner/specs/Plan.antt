@@ -10,10 +10,10 @@ use Rattle.sheet.specs.Table.{Day}
 use Rattle.demand.specs.Search.{Interval, overloadSays, firstOverload}
 use Rattle.demand.specs.declared.Found.{Found}
 use Rattle.demand.specs.declared.Found.the-variants as Found
-use Rattle.slot_run.specs.Choosing.{unfinished}
-use Rattle.slot_run.specs.Rules.{stateAt, planOf}
-use Rattle.slot_run.specs.declared.Choice.{Choice}
-use Rattle.slot_run.specs.declared.Choice.the-variants.{Nobody, Job}
+use Rattle.choice.specs.Choosing.{unfinished}
+use Rattle.slot_run.specs.Run.{stateAt, planOf}
+use Rattle.choice.specs.declared.Choice.{Choice}
+use Rattle.choice.specs.declared.Choice.the-variants.{Nobody, Job}
 
 -- the answer to a day that is planned
 pub data Verdict : Type 0 where

@@ -1,32 +1,26 @@
--- What one job lacks, and each rule, from what the code read, what its calls answered and what its tests showed.
-use Prim.Native.Nat.{ℕ, _+_, _*_, _<_, _≤_}
-use mathlib.Core.Path.{_≡_, refl, sym, ap, ap₂, _∙_}
-use mathlib.Core.Bool.{Bool, true, false, _&&_}
+-- What one job lacks, and the rules, from what the code read, what its calls answered and what its tests showed.
+use Prim.Native.Nat.{ℕ, _+_, _-_, _*_, _<_, _≤_}
+use mathlib.Core.Path.{_≡_, sym, ap, ap₂, _∙_}
+use mathlib.Core.Bool.{Bool, true, false, _&&_, _||_}
 use mathlib.Core.List.{List, []}
 use native.Mathlib.Omega.{arith}
 use lib.Dec.{ltb, leb}
 use lib.ListN.{getD}
-use borrow.Author.Tests.{lt-ltb, le-ltb, ltb-true}
+use borrow.Author.Tests.{ltb-true}
 use Rattle.sheet.specs.Sums.{total, some, harvestOf, mostCost}
 use Rattle.sheet.specs.Table.{mostJobs, jobOf, Day}
 use Rattle.sheet.proofs.Sums.{total-more, some-clear, some-here}
+use Rattle.sheet.proofs.Words.{and-left}
 use Rattle.totals.proofs.Entries.{harvest-read}
+use Rattle.choice.specs.Choosing.{deadlineOf}
+use Rattle.slacks.specs.Slack.{wants, pending, slackTime, comesBefore, coming, slackEnergy, zeroOrLess, isBelow}
+use Rattle.slacks.proofs.SlackTests.{noSlackBy, lacks-slack, savesBy, needs-charge}
+use Rattle.rules.specs.Rules.{Ruled, decisionSays, firstRule, ruleFor}
+use Rattle.rules.specs.declared.Decision.{Decision}
+use Rattle.rules.proofs.RuleLaws.{slacks-not-asked}
 use Rattle.slot_run.specs.declared.Now.{Now}
-use Rattle.slot_run.specs.Choosing.{deadlineOf}
-use Rattle.slot_run.specs.Slack.{wants, pending, slackTime, comesBefore, coming, slackEnergy, zeroOrLess, isBelow}
-use Rattle.slot_run.specs.Rules.{idle, busy, ruleFor}
 use Rattle.slot_run.specs.Steps.{stateOf, Shows, Shown}
-use Rattle.slot_run.proofs.Least.{one-test}
 use Rattle.slot_run.proofs.Lending.{reads}
-use Rattle.slot_run.proofs.RuleLaws.{rule-2, rule-3, rule-4, rule-5, rule-6}
-use Rattle.slot_run.proofs.SlackTests.{noSlackBy, lacks-slack, savesBy, needs-charge}
-
-and-false : (a b : Bool) → a ≡ false → (a && b) ≡ false
-and-false a b e = ap (λ (x : Bool). x && b) e
-
-and-false-right : (a b : Bool) → b ≡ false → (a && b) ≡ false
-and-false-right true b e = e
-and-false-right false b e = refl
 
 -- ---- sums and searches over the jobs, for whatever day is shown: one job more, and all of them
 
@@ -49,98 +43,99 @@ module _ (P : Day → Type 0) where
       pub one-here : r ≡ true → ((d : Day) → P d → k < d .table .count) → (d : Day) → P d → true ≡ some (test d) (d .table .count)
       one-here e below d w = sym (some-here (test d) (d .table .count) k (below d w) (sym (is d w) ∙ e))
 
--- ---- a job that lacks the time: its deadline past, nothing left of it, or else whether the pending work fills the time
+-- ---- a job that lacks the time: slack time is not asked of it, or the pending work fills the time
 
-module _ (here : Now) (jobs left : List ℕ) (k : ℕ) (below : k < here .count) where
-  pub time-past : getD jobs (64 + k) 0 ≤ here .slot → (d : Day) → Shown d here jobs → false ≡ noSlackBy d (stateOf here left) k
-  time-past h d w = let job = reads (w .1) k below in rw (le-ltb (here .slot) (deadlineOf d k) (omega arith))
+module _ (here : Now) (jobs left : List ℕ) (k : ℕ) (below : k < here .count) (asked : Bool)
+    (is : asked ≡ (ltb (here .slot) (getD jobs (64 + k) 0) && ltb 0 (getD left k 0))) where
+  wanted : (d : Day) → Shown d here jobs → asked ≡ wants d (stateOf here left) k
+  wanted d w = is ∙ ap (λ (n : ℕ). ltb (here .slot) n && ltb 0 (getD left k 0)) (reads (w .1) k below .deadline)
 
-  pub time-done : getD left k 0 ≡ 0 → (d : Day) → Shown d here jobs → false ≡ noSlackBy d (stateOf here left) k
-  time-done e d w =
-      sym (and-false (wants d (stateOf here left) k) _ (and-false-right (ltb (here .slot) (deadlineOf d k)) (ltb 0 (getD left k 0)) (le-ltb 0 (getD left k 0) (omega arith))))
+  pub time-not-asked : asked ≡ false → (d : Day) → Shown d here jobs → false ≡ noSlackBy d (stateOf here left) k
+  time-not-asked e d w = sym (rw (sym (wanted d w) ∙ e))
 
-  pub time-told : here .slot < getD jobs (64 + k) 0 → (getD left k 0 ≡ 0 → ⊥) → (end slot sum : ℕ) → (end ≡ getD jobs (64 + k) 0) × (end ≤ 65535)
-      → (slot ≡ here .slot) × (slot ≤ 65535)
+  pub time-told : asked ≡ true → (sum : ℕ) (r : Bool)
       → ((d : Day) → Shown d here jobs → sum ≡ pending d (stateOf here left) (getD jobs (64 + k) 0)) × (sum ≤ 65535 * mostJobs)
-      → (d : Day) → Shown d here jobs → leb end (slot + sum) ≡ noSlackBy d (stateOf here left) k
-  time-told h l end slot sum p q r d w =
-      let job = reads (w .1) k below in
+      → r ≡ leb (getD jobs (64 + k) 0) (here .slot + sum) → (d : Day) → Shown d here jobs → r ≡ noSlackBy d (stateOf here left) k
+  time-told e sum r p q d w =
+      let deadline = reads (w .1) k below .deadline in
       let s = stateOf here left in
-      let filled = r .0 d w ∙ ap (pending d s) (job .deadline) in
-      ap₂ leb (p .0 ∙ job .deadline) (ap₂ _+_ (q .0) filled)
-      ∙ sym (lacks-slack d s k ∙ rw (lt-ltb (here .slot) (deadlineOf d k) (omega arith), lt-ltb 0 (getD left k 0) (omega arith)))
+      let due = p .0 d w ∙ ap (pending d s) deadline in
+      q ∙ ap₂ leb deadline (ap (λ (n : ℕ). here .slot + n) due) ∙ sym (lacks-slack d s k ∙ rw (sym (wanted d w) ∙ e))
 
-pub ruleset time-lacks = (time-past, time-done, time-told)
+pub ruleset time-lacks = (time-not-asked, time-told)
 
--- ---- a job that lacks the charge: it does not come, not before the chosen job's deadline, or else whether what is at hand falls short
+-- ---- a job that lacks the charge: slack energy is not asked of it, or what is at hand up to its deadline falls short
 
-by-order : (a b c d : ℕ) → (a < b → c < d) → (c < d → a < b) → ltb a b ≡ ltb c d
-by-order a b c d f g = one-test (ltb a b) (ltb c d) (λ p. lt-ltb c d (f (ltb-true a b p))) (λ p. lt-ltb a b (g (ltb-true c d p)))
+module _ (here : Now) (jobs totals : List ℕ) (chosen k : ℕ) (chosen-below : chosen < here .count) (below : k < here .count) (asked : Bool)
+    (is : asked ≡ (ltb (here .slot) (getD jobs k 0) && ltb (getD jobs (64 + k) 0) (getD jobs (64 + chosen) 0))) where
+  comes : (d : Day) → Shows d here jobs totals → asked ≡ comesBefore d (stateOf here []) (deadlineOf d chosen) k
+  comes d w = let job = reads w k below in is ∙ rw (job .release, job .deadline, reads w chosen chosen-below .deadline)
 
-module _ (here : Now) (jobs totals : List ℕ) (chosen k : ℕ) (chosen-below : chosen < here .count) (below : k < here .count) where
   abbrev Lacks : Bool → Type 0
   Lacks r = (d : Day) → Shows d here jobs totals → r ≡ savesBy d (stateOf here []) (deadlineOf d chosen) (jobOf (d .table) chosen .energy) k
 
-  pub charge-not-coming : getD jobs k 0 ≤ here .slot → Lacks false
-  charge-not-coming h d w = let job = reads w k below in rw (le-ltb (here .slot) (jobOf (d .table) k .release) (omega arith))
+  pub charge-not-asked : asked ≡ false → Lacks false
+  charge-not-asked e d w = sym (rw (sym (comes d w) ∙ e))
 
-  pub charge-later : getD jobs (64 + chosen) 0 ≤ getD jobs (64 + k) 0 → Lacks false
-  charge-later h d w =
-      let job = reads w k below in
-      let own = reads w chosen chosen-below in
-      sym
-      (and-false (comesBefore d (stateOf here []) (deadlineOf d chosen) k) _
-      (and-false-right (ltb (here .slot) (jobOf (d .table) k .release)) (ltb (deadlineOf d k) (deadlineOf d chosen)) (le-ltb (deadlineOf d k) (deadlineOf d chosen) (omega arith))))
+  module _ (e : asked ≡ true) where
+    -- the harvest up to the job's deadline, as the difference of two totals
+    pub harvest-told : (d : Day) → Shows d here jobs totals
+        → getD totals (getD jobs (64 + k) 0) 0 ≡ here .harvested + harvestOf (d .harvest) (here .slot) (deadlineOf d k)
+    harvest-told d w =
+        let job = reads w k below in
+        let after : here .slot < getD jobs k 0 = ltb-true (here .slot) (getD jobs k 0) (and-left (ltb (here .slot) (getD jobs k 0)) _ (sym is ∙ e)) in
+        let good = job .job in
+        ap (λ (n : ℕ). getD totals n 0) (job .deadline)
+        ∙ harvest-read d totals (w .summed) (here .slot) (deadlineOf d k) (omega arith) (good .in-day)
+        ∙ ap (λ (n : ℕ). n + harvestOf (d .harvest) (here .slot) (deadlineOf d k)) (sym (w .harvested-is))
 
-  pub charge-told : here .slot < getD jobs k 0 → getD jobs (64 + k) 0 < getD jobs (64 + chosen) 0 → (level price sum : ℕ)
-      → (level ≡ here .level) × (level ≤ 65535) → (price ≡ getD jobs (192 + chosen) 0) × (price ≤ 65535)
-      → ((d : Day) → Shown d here jobs → sum ≡ coming d (stateOf here []) (getD jobs (64 + k) 0)) × (sum ≤ mostCost * mostJobs)
-      → Lacks (ltb (level + getD totals (getD jobs (64 + k) 0) 0) (sum + price + here .harvested))
-  charge-told h l level price sum p q r d w =
-      let job = reads w k below in
-      let own = reads w chosen chosen-below in
-      let s = stateOf here [] in
-      let good = job .job in
-      let due = r .0 d (totals, w) ∙ ap (coming d s) (job .deadline) in
-      let entry = ap (λ (n : ℕ). getD totals n 0) (job .deadline) in
-      let harvest = harvest-read d totals (w .summed) (here .slot) (deadlineOf d k) (omega arith) (good .in-day) in
-      by-order (level + getD totals (getD jobs (64 + k) 0) 0) (sum + price + here .harvested)
-      (here .level + harvestOf (d .harvest) (here .slot) (deadlineOf d k)) (coming d s (deadlineOf d k) + jobOf (d .table) chosen .energy) (λ x. omega arith) (λ x. omega arith)
-      ∙ sym
-      (needs-charge d s (deadlineOf d chosen) (jobOf (d .table) chosen .energy) k
-      ∙ rw (lt-ltb (here .slot) (jobOf (d .table) k .release) (omega arith), lt-ltb (deadlineOf d k) (deadlineOf d chosen) (omega arith)))
+    pub charge-told : (sum : ℕ) (r : Bool)
+        → ((d : Day) → Shown d here jobs → sum ≡ coming d (stateOf here []) (getD jobs (64 + k) 0)) × (sum ≤ mostCost * mostJobs)
+        → r ≡ ltb (here .level + (getD totals (getD jobs (64 + k) 0) 0 - here .harvested)) (sum + getD jobs (192 + chosen) 0) → Lacks r
+    charge-told sum r p q d w =
+        let job = reads w k below in
+        let s = stateOf here [] in
+        let due = p .0 d (totals, w) ∙ ap (coming d s) (job .deadline) in
+        let told = harvest-told d w in
+        let harvest : getD totals (getD jobs (64 + k) 0) 0 - here .harvested ≡ harvestOf (d .harvest) (here .slot) (deadlineOf d k) = omega arith in
+        q
+        ∙ ap₂ ltb (ap (λ (n : ℕ). here .level + n) harvest) (ap₂ _+_ due (reads w chosen chosen-below .energy))
+        ∙ sym (needs-charge d s (deadlineOf d chosen) (jobOf (d .table) chosen .energy) k ∙ rw (sym (comes d w) ∙ e))
 
-pub ruleset charge-lacks = (charge-not-coming, charge-later, charge-told)
+pub ruleset charge-lacks = (charge-not-asked, charge-told)
 
--- ---- the rules
+-- ---- the rules, on what the code reads
 
-module _ (here : Now) (jobs totals left : List ℕ) (chosen price : ℕ) (below : chosen < here .count) (priced : (price ≡ getD jobs (192 + chosen) 0) × (price ≤ 65535)) where
-  pub by-rule-2 : here .charge < price → (d : Day) → Shows d here jobs totals → idle 2 ≡ ruleFor d (stateOf here left) chosen
-  by-rule-2 a d w = let job = reads w chosen below in sym (rule-2 d (stateOf here left) chosen (omega arith))
+module _ (here : Now) (jobs totals left : List ℕ) (chosen : ℕ) (below : chosen < here .count) where
+  abbrev rules : Bool → Bool → Ruled
+  rules no-slack saves = firstRule (here .charge) (getD jobs (192 + chosen) 0) (here .capacity) no-slack saves chosen
 
-  module _ (capacity : ℕ) (most : (capacity ≡ here .capacity) × (capacity ≤ 65535)) (a : price ≤ here .charge) where
-    pub by-rule-3 : capacity < here .charge → (d : Day) → Shows d here jobs totals → busy 3 chosen ≡ ruleFor d (stateOf here left) chosen
-    by-rule-3 b d w = let job = reads w chosen below in sym (rule-3 d (stateOf here left) chosen (omega arith) (omega arith))
+  -- what rules 4 and 5 ask
+  abbrev lacksTime : Day → Bool
+  lacksTime d = zeroOrLess (slackTime d (stateOf here left))
 
-    module _ (b : here .charge ≤ capacity) (lacking : Bool)
-        (slack : (d : Day) → Shown d here jobs → lacking ≡ zeroOrLess (slackTime d (stateOf here left))) where
-      pub by-rule-4 : lacking ≡ true → (d : Day) → Shows d here jobs totals → busy 4 chosen ≡ ruleFor d (stateOf here left) chosen
-      by-rule-4 e d w =
-          let job = reads w chosen below in sym (rule-4 d (stateOf here left) chosen (omega arith) (omega arith) (sym (slack d (totals, w)) ∙ e))
+  abbrev lacksCharge : Day → List ℕ → Bool
+  lacksCharge d l = isBelow (slackEnergy d (stateOf here l) (deadlineOf d chosen)) (jobOf (d .table) chosen .energy)
 
-      module _ (e : lacking ≡ false) (needed : Bool)
-          (short : (d : Day) → Shows d here jobs totals
-          → needed ≡ isBelow (slackEnergy d (stateOf here []) (deadlineOf d chosen)) (jobOf (d .table) chosen .energy)) where
-        pub by-rule-5 : needed ≡ true → (d : Day) → Shows d here jobs totals → idle 5 ≡ ruleFor d (stateOf here left) chosen
-        unfolding slackEnergy coming
-        by-rule-5 f d w =
-            let job = reads w chosen below in
-            sym (rule-5 d (stateOf here left) chosen (omega arith) (omega arith) (sym (slack d (totals, w)) ∙ e) (sym (short d w) ∙ f))
+  rules-read : (d : Day) → Shows d here jobs totals → rules (lacksTime d) (lacksCharge d left) ≡ ruleFor d (stateOf here left) chosen
+  unfolding ruleFor
+  rules-read d w = rw (w .charge-is, reads w chosen below .energy, w .capacity-is)
 
-        pub by-rule-6 : needed ≡ false → (d : Day) → Shows d here jobs totals → busy 6 chosen ≡ ruleFor d (stateOf here left) chosen
-        unfolding slackEnergy coming
-        by-rule-6 f d w =
-            let job = reads w chosen below in
-            sym (rule-6 d (stateOf here left) chosen (omega arith) (omega arith) (sym (slack d (totals, w)) ∙ e) (sym (short d w) ∙ f))
+  module _ (r : Decision) where
+    abbrev Decides : Type 0
+    Decides = (d : Day) → Shows d here jobs totals → decisionSays r ≡ ruleFor d (stateOf here left) chosen
 
-pub ruleset by-rules = (by-rule-2, by-rule-3, by-rule-4, by-rule-5, by-rule-6)
+    pub rules-settled : decisionSays r ≡ rules false false → (settled : Bool)
+        → settled ≡ (ltb (here .charge) (getD jobs (192 + chosen) 0) || ltb (here .capacity) (here .charge)) → settled ≡ true → Decides
+    rules-settled said settled is e d w =
+        said ∙ slacks-not-asked (here .charge) (getD jobs (192 + chosen) 0) (here .capacity) chosen (sym is ∙ e) false false (lacksTime d) (lacksCharge d left) ∙ rules-read d w
+
+    module _ (lacking : Bool) (slack : (d : Day) → Shown d here jobs → lacking ≡ lacksTime d) where
+      pub rules-no-slack : decisionSays r ≡ rules true false → lacking ≡ true → Decides
+      rules-no-slack said e d w = said ∙ ap (λ (b : Bool). rules b (lacksCharge d left)) (sym e ∙ slack d (totals, w)) ∙ rules-read d w
+
+      pub rules-by-charge : (needed : Bool) → ((d : Day) → Shows d here jobs totals → needed ≡ lacksCharge d []) → decisionSays r ≡ rules false needed → lacking ≡ false → Decides
+      unfolding slackEnergy coming
+      rules-by-charge needed short said e d w = said ∙ ap₂ rules (sym e ∙ slack d (totals, w)) (short d w) ∙ rules-read d w
+
+pub ruleset by-rules = (rules-settled, rules-no-slack, rules-by-charge)

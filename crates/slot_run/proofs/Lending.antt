@@ -1,8 +1,10 @@
 -- What is lent in a slot of a day shows that day, and what is read off its columns are the jobs' own numbers.
-use Prim.Native.Nat.{ℕ, _+_, _*_, _<_}
-use mathlib.Core.Path.{_≡_, refl, ap, ap₂, _∙_}
+use Prim.Native.Nat.{ℕ, _+_, _*_, _<_, _≤_}
+use mathlib.Core.Path.{_≡_, refl, sym, ap, ap₂, _∙_}
+use mathlib.Core.Bool.{Bool, not, _&&_, _||_}
 use mathlib.Core.List.{List}
 use native.Mathlib.Omega.{arith}
+use lib.Dec.{ltb, leb}
 use lib.ListN.{getD}
 use Rattle.sheet.specs.Sums.{harvestAt}
 use Rattle.sheet.specs.Table.{mostJobs, jobOf, costOf, Day, dayOf}
@@ -11,9 +13,10 @@ use Rattle.sheet.specs.declared.Table.{Table}
 use Rattle.totals.specs.Totals.{Summed}
 use Rattle.columns.specs.Columns.{ColumnsOf}
 use Rattle.slot_run.specs.declared.Now.{Now}
-use Rattle.slot_run.specs.declared.State.{State}
-use Rattle.slot_run.specs.Choosing.{deadlineOf}
-use Rattle.slot_run.specs.Steps.{Shows}
+use Rattle.choice.specs.declared.State.{State}
+use Rattle.choice.specs.Choosing.{earliest, deadlineOf}
+use Rattle.slot_run.specs.Steps.{Shows, passesIn, deadlineIn}
+use Rattle.choice.proofs.Choosing.{earliest-same}
 
 pub shows : (t : Table) (harvest jobs totals : List ℕ) (s : State) (at charge : ℕ) → Summed (dayOf t harvest) totals → ColumnsOf t jobs
     → at ≡ s .slot → at < t .slots → charge ≡ s .level + harvestAt harvest at
@@ -51,3 +54,13 @@ reads {d} {here} {jobs} {totals} w k h =
       cost = ap₂ _*_ (w .columns .wanted k below few) energy;
       job = w .summed .good .good-jobs k below;
     }
+
+-- read off a day's columns, the jobs that pass and their deadlines are the day's own
+pub earliest-read : (d : Day) (jobs left : List ℕ) → ColumnsOf (d .table) jobs → (only-ready : Bool) (slot count : ℕ) → d .table .count ≡ count → count ≤ mostJobs
+    → earliest (passesIn only-ready slot jobs left) (deadlineIn jobs) count
+    ≡ earliest (λ k. (not only-ready || (leb (jobOf (d .table) k .release) slot && ltb slot (deadlineOf d k))) && ltb 0 (getD left k 0)) (deadlineOf d) (d .table .count)
+earliest-read d jobs left columns only-ready slot count e few =
+    ap (earliest _ _) (sym e)
+    ∙ earliest-same _ _ _ _ (d .table .count)
+    (λ k h. rw (columns .release k h (omega arith), columns .deadline k h (omega arith)))
+    (λ k h. columns .deadline k h (omega arith))

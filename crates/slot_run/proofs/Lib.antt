@@ -1,10 +1,6 @@
-pub mod Choosing
 pub mod Deciding
-pub mod Least
 pub mod Lending
 pub mod Promised
-pub mod RuleLaws
 pub mod Running
-pub mod SlackTests
 pub mod Taking
 pub mod Theorems

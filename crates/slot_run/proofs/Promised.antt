@@ -11,10 +11,11 @@ use Rattle.sheet.specs.declared.Outcome.the-variants as Outcome
 use Rattle.sheet.proofs.HandedIn.{hands-on}
 use Rattle.sheet.proofs.Order.{where-given, where-refused}
 use Rattle.sheet.proofs.Refusals.{says-refuses, says-gives}
-use Rattle.slot_run.specs.declared.State.{State}
-use Rattle.slot_run.specs.declared.Decision.{Decision}
+use Rattle.choice.specs.declared.State.{State}
+use Rattle.rules.specs.declared.Decision.{Decision}
 use Rattle.slot_run.specs.declared.Stepped.the-variants.{Refused, Over, Decided}
-use Rattle.slot_run.specs.Rules.{Ruled, decisionSays, decided, nextState, firstState}
+use Rattle.rules.specs.Rules.{Ruled, decisionSays, decided, nextState}
+use Rattle.slot_run.specs.Run.{firstState}
 use Rattle.slot_run.specs.Promise.{noState, Starts, ruled, Steps, stepOf, stateAfter}
 
 module _ (h : HandedIn) (o : Outcome) (said : outcomeSays o ≡ checkSays h) where

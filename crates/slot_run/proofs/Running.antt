@@ -5,10 +5,16 @@ use mathlib.Core.List.{List}
 use native.Mathlib.Numerals.{add-one}
 use native.Mathlib.Omega.{arith}
 use lib.ListN.{length, set, length-set}
-use Rattle.sheet.specs.Table.{Day}
+use Rattle.sheet.specs.Table.{mostJobs, idleByte, Day}
 use Rattle.sheet.proofs.Lists.{over, over-none, over-more, over-all}
-use Rattle.slot_run.specs.declared.State.{State}
-use Rattle.slot_run.specs.Rules.{decided, nextState, firstState, stateAt, planByte, planOf}
+use Rattle.choice.specs.declared.State.{State}
+use Rattle.rules.specs.Rules.{Ruled, idle, busy, decisionSays, decided, nextState}
+use Rattle.rules.specs.declared.BusyWhy.{BusyWhy}
+use Rattle.rules.specs.declared.IdleWhy.{IdleWhy}
+use Rattle.rules.specs.declared.Decision.{Decision}
+use Rattle.rules.specs.declared.Decision.the-variants.{Busy, Idle}
+use Rattle.rules.proofs.RuleLaws.{busy-facts, busy-says, idle-says}
+use Rattle.slot_run.specs.Run.{firstState, stateAt, planByte, planOf}
 
 pub state-first : (d : Day) → stateAt d 0 ≡ firstState d
 unfolding stateAt
@@ -23,6 +29,21 @@ pub state-slot : (d : Day) (n : ℕ) → stateAt d n .slot ≡ n
 unfolding stateAt nextState firstState
 state-slot d zero = refl
 state-slot d (suc n) = ap (λ (k : ℕ). k + 1) (state-slot d n) ∙ add-one n
+
+-- the plan's byte of a decision
+pub idle-byte : (d : Decision) (why : IdleWhy) → d ≡ Idle why → planByte (decisionSays d) ≡ idleByte
+idle-byte d why e = ap (λ (x : Decision). planByte (decisionSays x)) e ∙ ap planByte (idle-says why)
+
+pub busy-byte : (d : Decision) (k : ℕ) (why : BusyWhy) → d ≡ Busy k why → planByte (decisionSays d) ≡ k
+busy-byte d k why e = ap (λ (x : Decision). planByte (decisionSays x)) e ∙ ap planByte (busy-says k why)
+
+-- every byte of a plan fits
+pub small-byte : (d : Day) (s : State) → d .table .count ≤ mostJobs → planByte (decided d s) ≤ idleByte
+small-byte d s few = go (decided d s) refl
+  where
+    go : (what : Ruled) → decided d s ≡ what → planByte (decided d s) ≤ idleByte
+    go (idle rule) e = rw e (omega arith)
+    go (busy rule k) e = let b = busy-facts d s rule k e in rw e (omega arith)
 
 -- the plan's byte for slot n
 abbrev pub byteAt : Day → ℕ → ℕ

@@ -5,19 +5,19 @@ use mathlib.Core.List.{List}
 use native.Mathlib.Omega.{arith}
 use lib.ListN.{getD, set}
 use Rattle.sheet.specs.Table.{mostJobs, Day}
-use Rattle.slot_run.specs.declared.BusyWhy.{BusyWhy}
-use Rattle.slot_run.specs.declared.Choice.{Choice}
-use Rattle.slot_run.specs.declared.Choice.the-variants.{Nobody, Job}
-use Rattle.slot_run.specs.declared.Decision.{Decision}
-use Rattle.slot_run.specs.declared.Decision.the-variants.{Busy, Idle}
-use Rattle.slot_run.specs.declared.IdleWhy.{IdleWhy}
+use Rattle.rules.specs.declared.BusyWhy.{BusyWhy}
+use Rattle.choice.specs.declared.Choice.{Choice}
+use Rattle.choice.specs.declared.Choice.the-variants.{Nobody, Job}
+use Rattle.rules.specs.declared.Decision.{Decision}
+use Rattle.rules.specs.declared.Decision.the-variants.{Busy, Idle}
+use Rattle.rules.specs.declared.IdleWhy.{IdleWhy}
 use Rattle.slot_run.specs.declared.Now.{Now}
-use Rattle.slot_run.specs.Choosing.{chosen}
-use Rattle.slot_run.specs.Rules.{idle, busy, decisionSays, ruleFor, ruleOn, decided}
+use Rattle.choice.specs.Choosing.{chosen}
+use Rattle.rules.specs.Rules.{idle, busy, decisionSays, ruleFor, ruleOn, decided}
 use Rattle.slot_run.specs.Steps.{stateOf, Shows, Shown, Takes}
-use Rattle.slot_run.proofs.Choosing.{chosen-is}
+use Rattle.choice.proofs.Choosing.{chosen-is}
 use Rattle.slot_run.proofs.Lending.{reads}
-use Rattle.slot_run.proofs.RuleLaws.{busyRule, idleRule, busy-says, idle-says, busy-facts, idle-leaves, busy-leaves, next-by-parts}
+use Rattle.rules.proofs.RuleLaws.{busyRule, idleRule, busy-says, idle-says, busy-facts, idle-leaves, busy-leaves, next-by-parts}
 
 module _ (here : Now) (jobs totals left : List ℕ) where
   -- ---- the choice is nobody, or a job that is below the count and goes by the rules

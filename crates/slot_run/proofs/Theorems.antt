@@ -16,21 +16,22 @@ use Rattle.sheet.proofs.Exactly.{either}
 use Rattle.sheet.proofs.HandedIn.{check-leaves, check-refuses, handed-on-exactly, own-exactly, outcome-refused-exactly}
 use Rattle.sheet.proofs.Order.{Refuses, where-given, where-refused}
 use Rattle.sheet.proofs.Refusals.{byRefusal, by-refusal, said-one, said-exactly, refusal-refuses, outcome-one, own-given}
-use Rattle.slot_run.specs.declared.Choice.{Choice}
-use Rattle.slot_run.specs.declared.State.{State}
-use Rattle.slot_run.specs.declared.BusyWhy.the-variants.{Full, NoSlack, Free}
-use Rattle.slot_run.specs.declared.IdleWhy.the-variants.{None, Empty, Saving}
-use Rattle.slot_run.specs.declared.Decision.{Decision}
-use Rattle.slot_run.specs.declared.Decision.the-variants.{Busy, Idle}
+use Rattle.choice.specs.declared.Choice.{Choice}
+use Rattle.choice.specs.declared.State.{State}
+use Rattle.rules.specs.declared.BusyWhy.the-variants.{Full, NoSlack, Free}
+use Rattle.rules.specs.declared.IdleWhy.the-variants.{None, Empty, Saving}
+use Rattle.rules.specs.declared.Decision.{Decision}
+use Rattle.rules.specs.declared.Decision.the-variants.{Busy, Idle}
 use Rattle.slot_run.specs.declared.Start.{Start}
 use Rattle.slot_run.specs.declared.Stepped.{Stepped}
 use Rattle.slot_run.specs.declared.Stepped.the-variants.{Refused, Over, Decided}
 use Rattle.slot_run.specs.declared.StepResult.{StepResult}
-use Rattle.slot_run.specs.Choosing.{unfinished}
-use Rattle.slot_run.specs.Slack.{wants, slackTimeAt, slackTime, comesBefore, slackEnergyAt, slackEnergy}
-use Rattle.slot_run.specs.Rules.{Ruled, idle, busy, decisionSays, decided, nextState, stateAt}
+use Rattle.choice.specs.Choosing.{unfinished}
+use Rattle.slacks.specs.Slack.{wants, slackTimeAt, slackTime, comesBefore, slackEnergyAt, slackEnergy}
+use Rattle.rules.specs.Rules.{Ruled, idle, busy, decisionSays, decided, nextState}
+use Rattle.slot_run.specs.Run.{stateAt}
 use Rattle.slot_run.specs.Promise.{Starts, Turn, over, ruled, steppedSays, stepOf, stateAfter, Steps}
-use Rattle.slot_run.proofs.Least.{LeastAmong, least-is}
+use Rattle.slacks.proofs.Least.{LeastAmong, least-is}
 use Rattle.slot_run.proofs.Running.{state-slot}
 
 -- ---- the slacks

@@ -1,5 +1,3 @@
-pub mod Choosing
+pub mod Run
 pub mod Promise
-pub mod Rules
-pub mod Slack
 pub mod Steps

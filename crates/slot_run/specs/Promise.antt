@@ -7,12 +7,13 @@ use Rattle.sheet.specs.HandedIn.{HandedIn, checkSays, dayIn}
 use Rattle.sheet.specs.Paper.{Paper, gives, _else_, whereGiven}
 use Rattle.sheet.specs.Refusals.{refusalSays, outcomeSays}
 use Rattle.sheet.specs.Table.{mostJobs}
-use Rattle.slot_run.specs.declared.State.{State}
+use Rattle.choice.specs.declared.State.{State}
 use Rattle.slot_run.specs.declared.Start.{Start}
 use Rattle.slot_run.specs.declared.Stepped.{Stepped}
 use Rattle.slot_run.specs.declared.Stepped.the-variants.{Refused, Over, Decided}
 use Rattle.slot_run.specs.declared.StepResult.{StepResult}
-use Rattle.slot_run.specs.Rules.{Ruled, decisionSays, decided, nextState, firstState}
+use Rattle.rules.specs.Rules.{Ruled, decisionSays, decided, nextState}
+use Rattle.slot_run.specs.Run.{firstState}
 
 -- ---- the first state
 

@@ -8,10 +8,10 @@ use lib.Dec.{ltb, leb}
 use Rattle.sheet.specs.Table.{Day}
 use Rattle.totals.specs.Totals.{Summed}
 use Rattle.columns.specs.Columns.{deadlinesFrom, ColumnsOf}
-use Rattle.slot_run.specs.Rules.{atHand, decisionSays, decided, nextState}
+use Rattle.rules.specs.Rules.{atHand, decisionSays, decided, nextState}
 use Rattle.slot_run.specs.declared.Now.{Now}
-use Rattle.slot_run.specs.declared.State.{State}
-use Rattle.slot_run.specs.declared.rules.Taken.{Taken}
+use Rattle.choice.specs.declared.State.{State}
+use Rattle.slot_run.specs.declared.slot.Taken.{Taken}
 
 -- the state that a slot's numbers and what is left of the jobs make
 abbrev pub stateOf : Now → List ℕ → State

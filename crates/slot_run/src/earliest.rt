@@ -1,39 +1,14 @@
-// Choosing a job: the smallest deadline, ties the lowest number.
-use super::Choice;
+// The choice over the columns: the smallest deadline, ties the lowest number.
 use super::Now;
+use choice::Choice;
 ghost use mathlib.Core.Path.{_≡_};
-ghost use mathlib.Core.Bool.{Bool, not, _&&_, _||_};
+ghost use mathlib.Core.Bool.{Bool};
 ghost use Prim.Native.Nat.{ℕ, _<_, _≤_};
-ghost use lib.Dec.{ltb, leb};
 ghost use Rattle.sheet.specs.Table.{mostJobs, Day};
 ghost use Rattle.columns.specs.Columns.{ColumnsOf};
-ghost use Rattle.slot_run.specs.declared.State.{State};
-ghost use Rattle.slot_run.specs.Choosing.{smaller, earliest, chosen, unfinished};
+ghost use Rattle.choice.specs.declared.State.{State};
+ghost use Rattle.choice.specs.Choosing.{smaller, earliest, chosen, unfinished};
 ghost use Rattle.slot_run.specs.Steps.{Shown, stateOf, deadlineIn, passesIn};
-
-// A job is ready in the slot: released, its deadline after the slot, slots still wanted.
-fn is_ready(slot: u16, release: u16, deadline: u16, left: u16) -> bool
-    ensures { λ r. ⌜ r ≡ (leb release slot && ltb slot deadline && ltb 0 left) ⌝ }
-{
-    if release > slot {
-        return false;
-    }
-    if deadline <= slot {
-        return false;
-    }
-    0 < left
-}
-
-// A job still wants slots, and where only ready jobs are asked for it is released and its deadline is
-// after the slot.
-fn passes_test(only_ready: bool, slot: u16, release: u16, deadline: u16, left: u16) -> bool
-    ensures { λ r. ⌜ r ≡ ((not «only_ready» || (leb release slot && ltb slot deadline)) && ltb 0 left) ⌝ }
-{
-    if only_ready {
-        return is_ready(slot, release, deadline, left);
-    }
-    0 < left
-}
 
 // Job k beside the choice among lower numbers: k only where its deadline is smaller.
 fn beside(jobs: &[u16; columns::LENGTH], so_far: Choice, k: usize) -> Choice
@@ -67,7 +42,7 @@ fn earliest_job<'a>(
     let mut so_far = Choice::Nobody;
     let mut k = 0;
     while k < count {
-        if passes_test(
+        if choice::passes_test(
             only_ready,
             slot,
             jobs[k],

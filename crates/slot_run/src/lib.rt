@@ -1,56 +1,27 @@
 // The ED-H slot run: the first state of a day, one step from any state, and the run of a whole day.
 mod earliest;
-mod rules;
-mod slacks;
+mod slot;
+mod sums;
 
+pub use choice::Choice;
+pub use choice::State;
+pub use rules::BusyWhy;
+pub use rules::Decision;
+pub use rules::IdleWhy;
 use sheet::Outcome;
 use sheet::Refusal;
 use sheet::Table;
 ghost use mathlib.Core.Path.{_≡_};
 ghost use mathlib.Core.List.{List};
-ghost use Prim.Native.Nat.{ℕ, _+_, _≤_, _<_};
+ghost use Prim.Native.Nat.{ℕ, _≤_, _<_};
 ghost use lib.ListN.{length};
 ghost use Rattle.sheet.specs.HandedIn.{onTable};
-ghost use Rattle.sheet.specs.Table.{mostJobs, countedAs, dayOf};
+ghost use Rattle.sheet.specs.Table.{mostJobs, dayOf};
 ghost use Rattle.sheet.specs.WellFormed.{GoodDay};
 ghost use Rattle.totals.specs.Totals.{Summed};
-ghost use Rattle.slot_run.specs.Choosing.{unfinished};
-ghost use Rattle.slot_run.specs.Rules.{firstState, stateAt, planOf};
+ghost use Rattle.choice.specs.Choosing.{unfinished};
+ghost use Rattle.slot_run.specs.Run.{firstState, stateAt, planOf};
 ghost use Rattle.slot_run.specs.Promise.{Starts, Steps};
-
-// A state of the run, as a slot begins: the slot, the charge level, and the slots that each job
-// still wants. What stands beyond the table's last job is never looked at, and is handed on.
-pub struct State {
-    pub slot: u16,
-    pub level: u16,
-    pub left: [u16; sheet::MOST_JOBS],
-}
-
-// Why a slot is busy.
-pub enum BusyWhy {
-    // Rule 3: what is at hand is above capacity, and would spill.
-    Full,
-    // Rule 4: slack time is 0 or less.
-    NoSlack,
-    // Rule 6: neither time nor coming work forbids it.
-    Free,
-}
-
-// Why a slot is idle.
-pub enum IdleWhy {
-    // Rule 1: no job is ready.
-    None,
-    // Rule 2: the chosen job costs more than is at hand.
-    Empty,
-    // Rule 5: coming work needs the charge.
-    Saving,
-}
-
-// What a slot does: busy with a job, or idle, and why.
-pub enum Decision {
-    Busy(usize, BusyWhy),
-    Idle(IdleWhy),
-}
 
 // A step's answer.
 pub enum Stepped {
@@ -75,14 +46,6 @@ pub struct Start {
     pub state: State,
 }
 
-// A choice among the jobs: the smallest deadline, ties the lowest number.
-pub enum Choice {
-    // No job came into question.
-    Nobody,
-    // This job.
-    Job(usize),
-}
-
 // A slot's own numbers: how many jobs there are, the capacity, the slot and the level as it begins,
 // the charge at hand in it, and what the slots before it harvested. Nothing is looked up by this slot:
 // one that is itself an index in the loop over the day is compared with releases and deadlines at an
@@ -94,13 +57,6 @@ struct Now {
     level: u16,
     charge: u32,
     harvested: u32,
-}
-
-// The charge at hand in a slot: the level and what its harvest byte counts for.
-fn at_hand(level: u16, byte: u8) -> u32
-    ensures { λ r. ⌜ r ≡ level + countedAs byte ⌝ }
-{
-    sheet::wide(level) + sheet::wide(sheet::counted(byte))
 }
 
 // The first state of a table of at most 64 jobs.
@@ -157,11 +113,11 @@ fn step_on(t: Table, harvest: &[u8], s: State) -> StepResult
         capacity: t.capacity,
         slot: s.slot,
         level: s.level,
-        charge: at_hand(s.level, harvest[at]),
+        charge: rules::at_hand(s.level, harvest[at]),
         harvested: totals[at],
     };
     let mut next = s;
-    let taken = rules::take_slot(here, &jobs, &totals, &mut next.left);
+    let taken = slot::take_slot(here, &jobs, &totals, &mut next.left);
     next.slot = s.slot + 1;
     next.level = taken.level;
     let decision = taken.decision;
@@ -214,12 +170,12 @@ pub fn whole_run(
             capacity: t.capacity,
             slot: s.slot,
             level: s.level,
-            charge: at_hand(s.level, harvest[n]),
+            charge: rules::at_hand(s.level, harvest[n]),
             harvested: totals[n],
         };
-        let taken = rules::take_slot(here, &jobs, totals, &mut s.left);
+        let taken = slot::take_slot(here, &jobs, totals, &mut s.left);
         let decision = taken.decision;
-        plan[n] = rules::plan_byte(decision);
+        plan[n] = slot::plan_byte(decision);
         s.slot = s.slot + 1;
         s.level = taken.level;
         n += 1;

@@ -16,9 +16,10 @@ use Rattle.demand.specs.Demand.{kindNumber, demandOf, overloaded}
 use Rattle.demand.specs.Search.{isRelease, isDeadline, foundAt, latestStart, smallestEnd}
 use Rattle.demand.specs.declared.Kind.{Kind}
 use Rattle.demand.specs.declared.Kind.the-variants.{Time, Energy}
-use Rattle.slot_run.specs.Choosing.{ready, earliest, chosen, unfinished}
-use Rattle.slot_run.specs.Slack.{least, pending, slackTime, coming, slackEnergy}
-use Rattle.slot_run.specs.Rules.{ruleFor, decided, nextState, firstState, stateAt, planOf}
+use Rattle.choice.specs.Choosing.{ready, earliest, chosen, unfinished}
+use Rattle.slacks.specs.Slack.{least, pending, slackTime, coming, slackEnergy}
+use Rattle.rules.specs.Rules.{ruleFor, decided, nextState}
+use Rattle.slot_run.specs.Run.{firstState, stateAt, planOf}
 use Rattle.planner.specs.Plan.{Verdict, met, undecided, verdictOf, planFor, planLeft}
 use Rattle.planner.specs.Plan as Plan
 use Rattle.judge.specs.Evidence.{slotsGot, spentIn, levelAt}

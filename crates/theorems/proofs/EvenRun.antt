@@ -21,15 +21,16 @@ use Rattle.demand.specs.Demand.{within, demandOf, Overloaded}
 use Rattle.demand.specs.declared.Kind.{Kind}
 use Rattle.demand.specs.declared.Kind.the-variants.{Time, Energy}
 use Rattle.demand.proofs.Shrinking.{not-empty}
-use Rattle.slot_run.specs.declared.Choice.{Choice}
-use Rattle.slot_run.specs.declared.Choice.the-variants.{Nobody, Job}
-use Rattle.slot_run.specs.declared.State.{State}
-use Rattle.slot_run.specs.Choosing.{ready, chosen, deadlineOf, leftOf}
-use Rattle.slot_run.specs.Slack.{slackTime, zeroOrLess, slackEnergy, isBelow}
-use Rattle.slot_run.specs.Rules.{Ruled, idle, busy, atHand, ruleFor, ruleOn, decided, nextState, firstState, stateAt}
-use Rattle.slot_run.proofs.Choosing.{chosen-is, nobody-ready}
+use Rattle.choice.specs.declared.Choice.{Choice}
+use Rattle.choice.specs.declared.Choice.the-variants.{Nobody, Job}
+use Rattle.choice.specs.declared.State.{State}
+use Rattle.choice.specs.Choosing.{ready, chosen, deadlineOf, leftOf}
+use Rattle.slacks.specs.Slack.{slackTime, zeroOrLess, slackEnergy, isBelow}
+use Rattle.rules.specs.Rules.{Ruled, idle, busy, atHand, ruleFor, ruleOn, decided, nextState}
+use Rattle.slot_run.specs.Run.{firstState, stateAt}
+use Rattle.choice.proofs.Choosing.{chosen-is, nobody-ready}
 use Rattle.slot_run.proofs.Running.{state-first, state-next, state-slot}
-use Rattle.slot_run.proofs.RuleLaws.{rule-2, rule-3, rule-4, rule-5, rule-6, busy-facts, idle-leaves, busy-leaves}
+use Rattle.rules.proofs.RuleLaws.{rule-2, rule-3, rule-4, rule-5, rule-6, busy-facts, idle-leaves, busy-leaves}
 use Rattle.theorems.specs.Even.{EvenDay}
 use Rattle.theorems.proofs.RunPlan.{holds-a-place}
 use Rattle.theorems.proofs.EvenNumbers

@@ -15,10 +15,10 @@ use Rattle.sheet.proofs.Words.{and-left, and-right, and-true}
 use Rattle.sheet.proofs.Sums.{total-same, total-at-most, total-bound, term-at-most, some-where, not-some, harvest-grows}
 use Rattle.demand.specs.Demand.{within, demandOf}
 use Rattle.demand.specs.declared.Kind.the-variants.{Time}
-use Rattle.slot_run.specs.declared.State.{State}
-use Rattle.slot_run.specs.Choosing.{deadlineOf, leftOf, ready}
-use Rattle.slot_run.specs.Slack.{wants, pending, slackTime, zeroOrLess, comesBefore, coming, slackEnergy, isBelow}
-use Rattle.slot_run.proofs.SlackTests.{lacksSlack, no-slack-is, needsCharge, saving-is}
+use Rattle.choice.specs.declared.State.{State}
+use Rattle.choice.specs.Choosing.{deadlineOf, leftOf, ready}
+use Rattle.slacks.specs.Slack.{wants, pending, slackTime, zeroOrLess, comesBefore, coming, slackEnergy, isBelow}
+use Rattle.slacks.proofs.SlackTests.{lacksSlack, no-slack-is, needsCharge, saving-is}
 
 -- an `and` whose first test holds
 and-fails : (a b : Bool) → a ≡ true → (a && b) ≡ false → b ≡ false

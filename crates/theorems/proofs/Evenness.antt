@@ -15,9 +15,10 @@ use Rattle.sheet.specs.WellFormed.{WellFormed}
 use Rattle.sheet.proofs.Stated.{sheet-leaves}
 use Rattle.demand.specs.Demand.{demandOf, overloaded}
 use Rattle.demand.specs.Search.{isRelease, isDeadline, foundAt, latestStart, smallestEnd}
-use Rattle.slot_run.specs.Choosing.{ready, earliest, chosen, unfinished}
-use Rattle.slot_run.specs.Slack.{least, pending, slackTime, coming, slackEnergy}
-use Rattle.slot_run.specs.Rules.{ruleFor, decided, nextState, firstState, stateAt, planOf}
+use Rattle.choice.specs.Choosing.{ready, earliest, chosen, unfinished}
+use Rattle.slacks.specs.Slack.{least, pending, slackTime, coming, slackEnergy}
+use Rattle.rules.specs.Rules.{ruleFor, decided, nextState}
+use Rattle.slot_run.specs.Run.{firstState, stateAt, planOf}
 use Rattle.planner.specs.Plan.{verdictOf, planFor, planLeft}
 use Rattle.planner.specs.Promise.{Plans}
 use Rattle.planner.specs.declared.Planned.{Planned}

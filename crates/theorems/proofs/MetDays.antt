@@ -7,10 +7,10 @@ use Rattle.sheet.specs.HandedIn.{HandedIn, dayIn, Sound}
 use Rattle.demand.specs.Search.{firstOverload}
 use Rattle.demand.specs.declared.Found.{Found}
 use Rattle.demand.specs.declared.Found.the-variants as Found
-use Rattle.slot_run.specs.Choosing.{unfinished}
-use Rattle.slot_run.specs.Rules.{stateAt, planOf}
-use Rattle.slot_run.specs.declared.Choice.{Choice}
-use Rattle.slot_run.specs.declared.Choice.the-variants.{Nobody, Job}
+use Rattle.choice.specs.Choosing.{unfinished}
+use Rattle.slot_run.specs.Run.{stateAt, planOf}
+use Rattle.choice.specs.declared.Choice.{Choice}
+use Rattle.choice.specs.declared.Choice.the-variants.{Nobody, Job}
 use Rattle.planner.specs.Plan.{met, byFound, byUnfinished, verdictOf}
 use Rattle.planner.specs.Promise.{plannedSays, Plans}
 use Rattle.planner.proofs.Theorems.{verdict-given}

@@ -16,11 +16,12 @@ use Rattle.sheet.specs.Table.{mostJobs, idleByte, jobOf, Day}
 use Rattle.sheet.specs.WellFormed.{GoodDay}
 use Rattle.sheet.proofs.Lists.{listed-length, listed-get, filled-get}
 use Rattle.sheet.proofs.Words.{and-left, and-right}
-use Rattle.slot_run.specs.Choosing.{leftOf, deadlineOf, ready}
-use Rattle.slot_run.specs.Rules.{Ruled, idle, busy, decided, spent, stateBy, nextState, firstState, stateAt, planByte, planOf}
-use Rattle.slot_run.specs.declared.State.{State}
-use Rattle.slot_run.proofs.Choosing.{chosen-is}
-use Rattle.slot_run.proofs.RuleLaws.{busy-is-chosen, busy-facts}
+use Rattle.choice.specs.Choosing.{leftOf, deadlineOf, ready}
+use Rattle.rules.specs.Rules.{Ruled, idle, busy, decided, spent, stateBy, nextState}
+use Rattle.slot_run.specs.Run.{firstState, stateAt, planByte, planOf}
+use Rattle.choice.specs.declared.State.{State}
+use Rattle.choice.proofs.Choosing.{chosen-is}
+use Rattle.rules.proofs.RuleLaws.{busy-is-chosen, busy-facts}
 use Rattle.slot_run.proofs.Running.{state-slot, byteAt}
 use Rattle.judge.specs.Evidence.{byteOf, slotsGot, spentIn, levelAt, AcceptablePlan}
 

@@ -19,10 +19,10 @@ use Rattle.demand.specs.declared.Found.{Found}
 use Rattle.demand.specs.declared.Found.the-variants as Found
 use Rattle.demand.specs.declared.Overload.{Overload}
 use Rattle.demand.proofs.Theorems.{finds-first, finds-none}
-use Rattle.slot_run.specs.Choosing.{leftOf, unfinished}
-use Rattle.slot_run.specs.Rules.{stateAt, planOf}
-use Rattle.slot_run.specs.declared.Choice.the-variants.{Nobody}
-use Rattle.slot_run.proofs.Choosing.{nobody-unfinished}
+use Rattle.choice.specs.Choosing.{leftOf, unfinished}
+use Rattle.slot_run.specs.Run.{stateAt, planOf}
+use Rattle.choice.specs.declared.Choice.the-variants.{Nobody}
+use Rattle.choice.proofs.Choosing.{nobody-unfinished}
 use Rattle.planner.specs.Plan.{verdictOf, planFor, planLeft}
 use Rattle.planner.specs.Promise.{Plans}
 use Rattle.planner.specs.declared.Planned.{Planned}

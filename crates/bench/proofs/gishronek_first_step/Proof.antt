@@ -8,7 +8,7 @@ use Rattle.sheet.specs.declared.Table.{Table}
 use Rattle.reader.specs.Promise.{tableRead, harvestBehind}
 use Rattle.slot_run.specs.Promise.{Starts, Steps, stateAfter}
 use Rattle.slot_run.specs.declared.Start.{Start}
-use Rattle.slot_run.specs.declared.State.{State}
+use Rattle.choice.specs.declared.State.{State}
 use Rattle.slot_run.specs.declared.StepResult.{StepResult}
 use Rattle.bench.specs.Promise.{startOf, FirstSteps}
 use Rattle.bench.proofs.Yielded.{handed-whole}

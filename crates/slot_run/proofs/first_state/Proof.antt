@@ -5,7 +5,7 @@ use native.Mathlib.Omega.{arith}
 use Rattle.sheet.specs.Lists.{filled}
 use Rattle.sheet.specs.Table.{mostJobs, jobOf}
 use Rattle.sheet.proofs.Lists.{filled-none, filled-more}
-use Rattle.slot_run.specs.Rules.{firstState}
+use Rattle.slot_run.specs.Run.{firstState}
 use borrow.Author.Needs.{needs}
 use Rattle.slot_run.proofs.first_state.Statement.{statement}
 use Rattle.slot_run.proofs.first_state.Tie as tie

@@ -4,11 +4,10 @@ use mathlib.Core.Path.{_≡_, refl, sym, ap, _∙_}
 use native.Mathlib.Omega.{arith}
 use lib.ListN.{length}
 use Rattle.sheet.specs.Table.{mostSlots, Day, dayOf}
-use Rattle.slot_run.specs.declared.State.{State}
-use Rattle.slot_run.specs.Rules.{planByte}
+use Rattle.choice.specs.declared.State.{State}
+use Rattle.slot_run.specs.Run.{planByte}
 use Rattle.slot_run.proofs.Lending.{shows}
-use Rattle.slot_run.proofs.RuleLaws.{small-byte}
-use Rattle.slot_run.proofs.Running.{state-slot, RunTo, run-none, run-more, run-all}
+use Rattle.slot_run.proofs.Running.{small-byte, state-slot, RunTo, run-none, run-more, run-all}
 use borrow.Author.Needs.{needs}
 use Rattle.slot_run.proofs.whole_run.Statement.{statement}
 use Rattle.slot_run.proofs.whole_run.Tie as tie

@@ -4,7 +4,7 @@ use mathlib.Core.Path.{sym, _∙_}
 use native.Mathlib.Omega.{arith}
 use borrow.Author.Tests.{lt-ltb, le-ltb}
 use borrow.Author.Needs.{needs}
-use Rattle.slot_run.proofs.Choosing.{chosen-passes}
+use Rattle.choice.proofs.Choosing.{chosen-passes}
 use Rattle.slot_run.proofs.earliest.beside.Statement.{statement}
 use Rattle.slot_run.proofs.earliest.beside.Tie as tie
 

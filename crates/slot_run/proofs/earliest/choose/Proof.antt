@@ -1,8 +1,8 @@
 -- The chosen job is the earliest of the ready ones.
 use mathlib.Core.Path.{sym, _∙_}
 use mathlib.Core.Bool.{true}
-use Rattle.slot_run.specs.Choosing.{ready, chosen}
-use Rattle.slot_run.proofs.Choosing.{earliest-read}
+use Rattle.choice.specs.Choosing.{ready, chosen}
+use Rattle.slot_run.proofs.Lending.{earliest-read}
 use borrow.Author.Needs.{needs}
 use Rattle.slot_run.proofs.earliest.choose.Statement.{statement}
 use Rattle.slot_run.proofs.earliest.choose.Tie as tie

@@ -3,9 +3,9 @@ use Prim.Native.Nat.{_≤_, _-_}
 use mathlib.Core.Path.{_≡_, sym, ap, _∙_}
 use mathlib.Core.Logic.{⊎-elim}
 use native.Mathlib.Omega.{arith}
-use Rattle.slot_run.specs.Choosing.{earliest}
+use Rattle.choice.specs.Choosing.{earliest}
 use Rattle.slot_run.specs.Steps.{passesIn, deadlineIn}
-use Rattle.slot_run.proofs.Choosing.{earliest-none, earliest-passes, earliest-fails}
+use Rattle.choice.proofs.Choosing.{earliest-none, earliest-passes, earliest-fails}
 use borrow.Author.Needs.{needs}
 use Rattle.slot_run.proofs.earliest.earliest_job.Statement.{statement}
 use Rattle.slot_run.proofs.earliest.earliest_job.Tie as tie

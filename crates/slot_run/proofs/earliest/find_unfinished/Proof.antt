@@ -5,8 +5,8 @@ use mathlib.Core.Bool.{false}
 use mathlib.Core.List.{List}
 use lib.Dec.{ltb}
 use lib.ListN.{getD}
-use Rattle.slot_run.specs.Choosing.{earliest, deadlineOf, unfinished}
-use Rattle.slot_run.proofs.Choosing.{earliest-read}
+use Rattle.choice.specs.Choosing.{earliest, deadlineOf, unfinished}
+use Rattle.slot_run.proofs.Lending.{earliest-read}
 use borrow.Author.Needs.{needs}
 use Rattle.slot_run.proofs.earliest.find_unfinished.Statement.{statement}
 use Rattle.slot_run.proofs.earliest.find_unfinished.Tie as tie
