@@ -37,7 +37,7 @@ pub fn word(out: &mut [u8], at: usize, word: &[u8]) -> usize {
 }
 
 // A number in decimal.
-pub fn number(out: &mut [u8], at: usize, number: u64) -> usize {
+fn number(out: &mut [u8], at: usize, number: u64) -> usize {
     let mut text = [0u8; 20];
     let count = io::decimal(number, &mut text);
     word(out, at, &text[..count])
@@ -46,6 +46,12 @@ pub fn number(out: &mut [u8], at: usize, number: u64) -> usize {
 // A word and a number behind it.
 pub fn named(out: &mut [u8], at: usize, name: &[u8], value: u64) -> usize {
     let end = word(out, at, name);
+    number(out, end, value)
+}
+
+// A byte and a number behind it.
+pub fn marked(out: &mut [u8], at: usize, mark: u8, value: u64) -> usize {
+    let end = byte(out, at, mark);
     number(out, end, value)
 }
 
@@ -137,10 +143,10 @@ fn used_places(t: Table) -> usize
 
 // A place of a table.
 fn job(out: &mut [u8], at: usize, j: Job) -> usize {
-    let mut end = named(out, at, b" ", j.release as u64);
-    end = named(out, end, b",", j.deadline as u64);
-    end = named(out, end, b",", j.wanted as u64);
-    named(out, end, b",", j.energy as u64)
+    let mut end = marked(out, at, b' ', j.release as u64);
+    end = marked(out, end, b',', j.deadline as u64);
+    end = marked(out, end, b',', j.wanted as u64);
+    marked(out, end, b',', j.energy as u64)
 }
 
 // The first places of a table.

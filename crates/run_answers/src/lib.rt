@@ -18,8 +18,8 @@ const LEVEL_FROM: usize = 2;
 // The kind of a demand.
 fn kind(out: &mut [u8], at: usize, kind: Kind) -> usize {
     match kind {
-        Kind::Time => lines::word(out, at, b"time "),
-        Kind::Energy => lines::word(out, at, b"energy "),
+        Kind::Time => lines::word(out, at, b"time"),
+        Kind::Energy => lines::word(out, at, b"energy"),
     }
 }
 
@@ -27,8 +27,8 @@ fn kind(out: &mut [u8], at: usize, kind: Kind) -> usize {
 fn interval(out: &mut [u8], at: usize, o: Overload) -> usize {
     let which = o.kind;
     let mut end = kind(out, at, which);
-    end = lines::number(out, end, o.from as u64);
-    end = lines::named(out, end, b" ", o.to as u64);
+    end = lines::marked(out, end, b' ', o.from as u64);
+    end = lines::marked(out, end, b' ', o.to as u64);
     lines::weighed(out, end, o.demand, o.supply)
 }
 
@@ -56,24 +56,19 @@ fn places_left(left: [u16; sheet::MOST_JOBS]) -> usize
     count
 }
 
-// What the first place of a state has left.
-fn first_left(out: &mut [u8], at: usize, left: u16) -> usize {
-    lines::named(out, at, b" ", left as u64)
-}
-
-// What a place behind another has left.
-fn next_left(out: &mut [u8], at: usize, left: u16) -> usize {
-    lines::named(out, at, b",", left as u64)
+// A number of a state, as wide as the numbers of a line.
+fn wide(number: u16) -> u64 {
+    number as u64
 }
 
 // What the places of a state have left, up to the last of so many.
 fn numbers_left(out: &mut [u8], at: usize, left: [u16; sheet::MOST_JOBS], count: usize) -> usize
     requires { ⌜ count ≤ mostJobs ⌝ }
 {
-    let mut end = first_left(out, at, left[0]);
+    let mut end = lines::marked(out, at, b' ', wide(left[0]));
     let mut k = 1;
     while k < count {
-        end = next_left(out, end, left[k]);
+        end = lines::marked(out, end, b',', wide(left[k]));
         k += 1;
     }
     end
