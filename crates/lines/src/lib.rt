@@ -1,18 +1,10 @@
-// The parts of a line of docs/TRIALS.md. A line is made in a space that is lent: a function puts its
-// part behind the `at` bytes that stand there and answers how many stand there now. Where the space is
-// full, what stands there is printed and the line goes on at its front.
-use demand::Kind;
-use demand::Overload;
-use judge::PlanFault;
-use judge::Sums;
+// The parts that the lines of docs/TRIALS.md have in common. A line is made in a space that is lent: a
+// function puts its part behind the `at` bytes that stand there and answers how many stand there now.
+// Where the space is full, what stands there is printed and the line goes on at its front.
 use sheet::Job;
 use sheet::Outcome;
 use sheet::Refusal;
 use sheet::Table;
-use slot_run::BusyWhy;
-use slot_run::Decision;
-use slot_run::IdleWhy;
-use slot_run::State;
 ghost use Prim.Native.Nat.{_≤_};
 ghost use lib.ListN.{length};
 ghost use Rattle.sheet.specs.Table.{mostJobs};
@@ -54,6 +46,12 @@ fn number(out: &mut [u8], at: usize, number: u64) -> usize {
 // A word and a number behind it.
 pub fn named(out: &mut [u8], at: usize, name: &[u8], value: u64) -> usize {
     let end = word(out, at, name);
+    number(out, end, value)
+}
+
+// A byte and a number behind it.
+pub fn marked(out: &mut [u8], at: usize, mark: u8, value: u64) -> usize {
+    let end = byte(out, at, mark);
     number(out, end, value)
 }
 
@@ -109,16 +107,6 @@ pub fn refusal(out: &mut [u8], at: usize, why: Refusal) -> usize {
     }
 }
 
-// REFUSAL, 11 to 16.
-pub fn fault(out: &mut [u8], at: usize, fault: PlanFault) -> usize {
-    let end = refused(out, at, judge::number(fault));
-    match fault {
-        PlanFault::WrongLength => end,
-        PlanFault::LacksSlots(_) => named(out, end, b" job ", judge::place(fault) as u64),
-        _ => named(out, end, b" slot ", judge::place(fault) as u64),
-    }
-}
-
 // `accepted`, or REFUSAL.
 pub fn outcome(out: &mut [u8], at: usize, outcome: Outcome) -> usize {
     match outcome {
@@ -127,32 +115,10 @@ pub fn outcome(out: &mut [u8], at: usize, outcome: Outcome) -> usize {
     }
 }
 
-// What was weighed.
-fn weighed(out: &mut [u8], at: usize, demand: u32, supply: u32) -> usize {
+// What was weighed: the demand and the supply of an interval.
+pub fn weighed(out: &mut [u8], at: usize, demand: u32, supply: u32) -> usize {
     let end = named(out, at, b" demand ", demand as u64);
     named(out, end, b" supply ", supply as u64)
-}
-
-// What the judge weighed.
-pub fn sums(out: &mut [u8], at: usize, sums: Sums) -> usize {
-    weighed(out, at, sums.demand, sums.supply)
-}
-
-// The kind of a demand.
-fn kind(out: &mut [u8], at: usize, kind: Kind) -> usize {
-    match kind {
-        Kind::Time => word(out, at, b"time "),
-        Kind::Energy => word(out, at, b"energy "),
-    }
-}
-
-// INTERVAL.
-pub fn interval(out: &mut [u8], at: usize, o: Overload) -> usize {
-    let which = o.kind;
-    let mut end = kind(out, at, which);
-    end = number(out, end, o.from as u64);
-    end = named(out, end, b" ", o.to as u64);
-    weighed(out, end, o.demand, o.supply)
 }
 
 // Whether a place of a table is all zeros.
@@ -177,10 +143,10 @@ fn used_places(t: Table) -> usize
 
 // A place of a table.
 fn job(out: &mut [u8], at: usize, j: Job) -> usize {
-    let mut end = named(out, at, b" ", j.release as u64);
-    end = named(out, end, b",", j.deadline as u64);
-    end = named(out, end, b",", j.wanted as u64);
-    named(out, end, b",", j.energy as u64)
+    let mut end = marked(out, at, b' ', j.release as u64);
+    end = marked(out, end, b',', j.deadline as u64);
+    end = marked(out, end, b',', j.wanted as u64);
+    marked(out, end, b',', j.energy as u64)
 }
 
 // The first places of a table.
@@ -212,91 +178,6 @@ pub fn table(out: &mut [u8], at: usize, t: Table) -> usize {
     end = named(out, end, b" capacity ", t.capacity as u64);
     end = word(out, end, b" places");
     places(out, end, t)
-}
-
-// The places of a state up to the last that has something left.
-fn places_left(left: [u16; sheet::MOST_JOBS]) -> usize
-    ensures { λ r. ⌜ r ≤ mostJobs ⌝ }
-{
-    let mut count = sheet::MOST_JOBS;
-    while 0 < count {
-        if left[count - 1] != 0 {
-            return count;
-        }
-        count -= 1;
-    }
-    count
-}
-
-// A number of a state, as wide as the numbers of a line.
-fn wide(number: u16) -> u64 {
-    number as u64
-}
-
-// What stands before the number of a place: a space, and between two numbers a comma.
-fn mark_before(k: usize) -> u8 {
-    if k == 0 { b' ' } else { b',' }
-}
-
-// What the first places of a state have left.
-fn numbers_left(out: &mut [u8], at: usize, left: [u16; sheet::MOST_JOBS], count: usize) -> usize
-    requires { ⌜ count ≤ mostJobs ⌝ }
-{
-    let mut end = at;
-    let mut k = 0;
-    while k < count {
-        end = byte(out, end, mark_before(k));
-        end = number(out, end, wide(left[k]));
-        k += 1;
-    }
-    end
-}
-
-// What the places of a state have left, or `none`.
-fn places_of(out: &mut [u8], at: usize, left: [u16; sheet::MOST_JOBS]) -> usize {
-    let count = places_left(left);
-    if count == 0 {
-        return word(out, at, b" none");
-    }
-    numbers_left(out, at, left, count)
-}
-
-// STATE.
-pub fn state(out: &mut [u8], at: usize, s: State) -> usize {
-    let mut end = named(out, at, b" slot ", s.slot as u64);
-    end = named(out, end, b" level ", s.level as u64);
-    end = word(out, end, b" left");
-    let left = s.left;
-    places_of(out, end, left)
-}
-
-// Why a slot is busy.
-fn busy(out: &mut [u8], at: usize, why: BusyWhy) -> usize {
-    match why {
-        BusyWhy::Full => word(out, at, b" full"),
-        BusyWhy::NoSlack => word(out, at, b" noslack"),
-        BusyWhy::Free => word(out, at, b" free"),
-    }
-}
-
-// Why a slot is idle.
-fn idle(out: &mut [u8], at: usize, why: IdleWhy) -> usize {
-    match why {
-        IdleWhy::None => word(out, at, b"idle none"),
-        IdleWhy::Empty => word(out, at, b"idle empty"),
-        IdleWhy::Saving => word(out, at, b"idle saving"),
-    }
-}
-
-// What a slot does, and why.
-pub fn decision(out: &mut [u8], at: usize, decision: Decision) -> usize {
-    match decision {
-        Decision::Busy(k, why) => {
-            let end = named(out, at, b"busy ", k as u64);
-            busy(out, end, why)
-        }
-        Decision::Idle(why) => idle(out, at, why),
-    }
 }
 
 // Ends the line behind the `at` bytes that stand there, and prints them.

@@ -231,8 +231,8 @@ pub fn end(kind: u8, payload: &[u8]) -> usize {
     }
 }
 
-// Copies bytes to the front of a space that is lent, as many as it has room for, and answers how many.
-pub fn lend(bytes: &[u8], space: &mut [u8]) -> usize
+// Copies bytes to the front of a space, as many as it has room for, and answers how many.
+fn copy(bytes: &[u8], space: &mut [u8]) -> usize
     ensures { λ r. ⌜ r ≤ length (now (space .exit)) ⌝ }
 {
     let mut i = 0;
@@ -244,4 +244,12 @@ pub fn lend(bytes: &[u8], space: &mut [u8]) -> usize
         i += 1;
     }
     i
+}
+
+// Copies the `bytes` that start at a place of a payload to the front of a space that is lent, as many as
+// it has room for, and answers how many.
+pub fn lend(payload: &[u8], at: usize, space: &mut [u8]) -> usize
+    ensures { λ r. ⌜ r ≤ length (now (space .exit)) ⌝ }
+{
+    copy(bytes_at(payload, at), space)
 }

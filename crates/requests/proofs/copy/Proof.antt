@@ -3,8 +3,8 @@ use Prim.Native.Nat.{_≤_, _-_}
 use mathlib.Core.Path.{_≡_}
 use lib.ListN.{length}
 use borrow.Author.Needs.{needs}
-use Rattle.requests.proofs.lend.Statement.{statement}
-use Rattle.requests.proofs.lend.Tie as tie
+use Rattle.requests.proofs.copy.Statement.{statement}
+use Rattle.requests.proofs.copy.Tie as tie
 
 abbrev Inv-loop : tie.InvT-loop
 Inv-loop bytes space₀ i₀ space i = (length space ≡ length space₀) × (i ≤ length space₀)
@@ -12,8 +12,8 @@ Inv-loop bytes space₀ i₀ space i = (length space ≡ length space₀) × (i 
 abbrev μ-loop : tie.MeasureT-loop
 μ-loop bytes space₀ i₀ space i = length bytes - i
 
-pub lend-spec : {M : Type 1} → statement M
-lend-spec =
+pub copy-spec : {M : Type 1} → statement M
+copy-spec =
     tie.close
     (tie.spec Inv-loop μ-loop (λ c. search needs) (λ c. search needs) (λ c. search needs) (λ c. search needs) (λ c. search needs) (λ c. search needs)
     (λ c. search needs) (λ c. search needs) (λ c. search needs) (λ c. search needs))

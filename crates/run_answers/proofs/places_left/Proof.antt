@@ -2,8 +2,8 @@
 use Prim.Native.Nat.{_≤_}
 use Rattle.sheet.specs.Table.{mostJobs}
 use borrow.Author.Needs.{needs}
-use Rattle.lines.proofs.places_left.Statement.{statement}
-use Rattle.lines.proofs.places_left.Tie as tie
+use Rattle.run_answers.proofs.places_left.Statement.{statement}
+use Rattle.run_answers.proofs.places_left.Tie as tie
 
 abbrev Inv-loop : tie.InvT-loop
 Inv-loop left count₀ count = count ≤ mostJobs
