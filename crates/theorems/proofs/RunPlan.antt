@@ -22,7 +22,8 @@ use Rattle.slot_run.specs.declared.State.{State}
 use Rattle.slot_run.proofs.Choosing.{chosen-is}
 use Rattle.slot_run.proofs.RuleLaws.{busy-is-chosen, busy-facts}
 use Rattle.slot_run.proofs.Running.{state-slot, byteAt}
-use Rattle.judge.specs.Evidence.{byteOf, slotsGot, spentIn, levelAt, AcceptablePlan}
+use Rattle.plan_slots.specs.Plan.{byteOf, slotsGot, spentIn, levelAt}
+use Rattle.judge.specs.Evidence.{AcceptablePlan}
 
 -- ---- one slot, from any state
 

@@ -13,17 +13,17 @@ use Rattle.sheet.specs.Paper.{Check, gives, _when_, _else_, inOrder}
 use Rattle.sheet.specs.Sums.{harvestAt}
 use Rattle.sheet.specs.Table.{mostJobs, idleByte, startLevel, jobOf, Day}
 use Rattle.sheet.proofs.Sums.{total-none, total-more}
-use Rattle.judge.specs.Evidence.{byteOf, namesJob, slotsGot, spentIn, levelAt}
+use Rattle.plan_slots.specs.Plan.{byteOf, namesJob, slotsGot, spentIn, levelAt}
 use Rattle.sheet.specs.declared.Job.{Job}
 use Rattle.sheet.proofs.Order.{Refuses, else-stays, else-goes-on, in-order-first, in-order-same}
-use Rattle.judge.specs.Judge.{namesNothing, outsideWindow, hasAllSlots, lacksCharge, jobSays, slotSays, endSays, slotsSay}
-use Rattle.judge.specs.Numbers.{faultSays}
-use Rattle.judge.specs.Steps.{findingSays, endsBy}
-use Rattle.judge.specs.declared.PlanFault.{PlanFault}
-use Rattle.judge.specs.declared.PlanFault.the-variants.{NoJob, OutsideWindow, HasAllSlots, LacksCharge, LacksSlots}
-use Rattle.judge.specs.declared.Finding.{Finding}
-use Rattle.judge.specs.declared.Finding.the-variants.{Nothing, Fault}
-use Rattle.judge.proofs.PlanOrder.{fault-refuses}
+use Rattle.plan_slots.specs.Slots.{namesNothing, outsideWindow, hasAllSlots, lacksCharge, jobSays, slotSays, endSays, slotsSay}
+use Rattle.plan_slots.specs.Numbers.{faultSays, findingSays}
+use Rattle.plan_slots.specs.Steps.{endsBy}
+use Rattle.plan_slots.specs.declared.PlanFault.{PlanFault}
+use Rattle.plan_slots.specs.declared.PlanFault.the-variants.{NoJob, OutsideWindow, HasAllSlots, LacksCharge, LacksSlots}
+use Rattle.plan_slots.specs.declared.Finding.{Finding}
+use Rattle.plan_slots.specs.declared.Finding.the-variants.{Nothing, Fault}
+use Rattle.plan_slots.proofs.SlotOrder.{fault-refuses}
 
 -- ---- the slots that a job got
 
@@ -42,6 +42,14 @@ pub got-not-here : (plan : List ℕ) (k i : ℕ) → (byteOf plan i ≡ k → �
 got-not-here plan k i e =
     let more = got-more plan k i ∙ ap (λ (b : Bool). slotsGot plan k i + cond b 1 0) (ne-eqb (byteOf plan i) k e) in
     omega arith
+
+pub got-grows : (plan : List ℕ) (k i n : ℕ) → slotsGot plan k i ≤ slotsGot plan k (i + n)
+got-grows plan k i zero = let here : i + 0 ≡ i = omega arith in rw here (omega arith)
+got-grows plan k i (suc n) =
+    let here : i + suc n ≡ i + n + 1 = omega arith in
+    let more = got-more plan k (i + n) in
+    let before = got-grows plan k i n in
+    rw here (omega arith)
 
 -- ---- the level
 

@@ -12,15 +12,15 @@ use Rattle.sheet.specs.Sums.{harvestAt}
 use Rattle.sheet.specs.Table.{mostJobs, idleByte, startLevel, jobOf, Day}
 use Rattle.sheet.proofs.Order.{in-order-none, in-order-clear}
 use Rattle.sheet.proofs.Lists.{zeros-first}
-use Rattle.judge.specs.Evidence.{byteOf, slotsGot, levelAt}
-use Rattle.judge.specs.Judge.{jobSays, slotSays, slotsSay}
-use Rattle.judge.specs.Steps.{findingSays, endsBy}
-use Rattle.judge.specs.Numbers.{faultSays}
-use Rattle.judge.specs.declared.PlanFault.{PlanFault}
-use Rattle.judge.specs.declared.PlanFault.the-variants.{NoJob}
-use Rattle.judge.specs.declared.Finding.{Finding}
-use Rattle.judge.specs.declared.Finding.the-variants.{Nothing, Fault}
-use Rattle.judge.proofs.Judging.{got-none, got-here, got-not-here, level-first, idle-says, idle-level, idle-got, stranger-says, busy-says, busy-level, first-refused, ends-decide, job-clear, found-refuses, nothing-gives, byte-stands}
+use Rattle.plan_slots.specs.Plan.{byteOf, slotsGot, levelAt}
+use Rattle.plan_slots.specs.Slots.{jobSays, slotSays, slotsSay}
+use Rattle.plan_slots.specs.Steps.{endsBy}
+use Rattle.plan_slots.specs.Numbers.{faultSays, findingSays}
+use Rattle.plan_slots.specs.declared.PlanFault.{PlanFault}
+use Rattle.plan_slots.specs.declared.PlanFault.the-variants.{NoJob}
+use Rattle.plan_slots.specs.declared.Finding.{Finding}
+use Rattle.plan_slots.specs.declared.Finding.the-variants.{Nothing, Fault}
+use Rattle.plan_slots.proofs.Judging.{got-none, got-here, got-not-here, level-first, idle-says, idle-level, idle-got, stranger-says, busy-says, busy-level, first-refused, ends-decide, job-clear, found-refuses, nothing-gives, byte-stands}
 
 -- the level and the slots that each job got are the plan's, and no slot before i is refused
 pub record Kept (d : Day) (plan got : List ℕ) (level i : ℕ) : Type 0 where

@@ -8,11 +8,11 @@ use borrow.Author.Tests.{lt-ltb, le-ltb, le-leb, lt-leb, not-true, not-false}
 use borrow.Author.Needs.{needs}
 use Rattle.sheet.specs.Paper.{gives}
 use Rattle.sheet.specs.declared.Job.{Job}
-use Rattle.judge.specs.Judge.{jobSays}
-use Rattle.judge.specs.Numbers.{faultSays}
-use Rattle.judge.specs.declared.PlanFault.the-variants.{OutsideWindow, HasAllSlots, LacksCharge}
-use Rattle.judge.proofs.judge_job.Statement.{statement}
-use Rattle.judge.proofs.judge_job.Tie as tie
+use Rattle.plan_slots.specs.Slots.{jobSays}
+use Rattle.plan_slots.specs.Numbers.{faultSays}
+use Rattle.plan_slots.specs.declared.PlanFault.the-variants.{OutsideWindow, HasAllSlots, LacksCharge}
+use Rattle.plan_slots.proofs.judge_job.Statement.{statement}
+use Rattle.plan_slots.proofs.judge_job.Tie as tie
 
 module _ (j : Job) (i got charge : ℕ) {may : Bool} (asked : may ≡ (leb (j .release) i && ltb i (j .deadline))) where
   thirteen : not may ≡ true → faultSays (OutsideWindow i) ≡ jobSays j i got charge

@@ -4,10 +4,10 @@ use mathlib.Core.Path.{_≡_, refl, ap₂, _∙_}
 use native.Mathlib.Omega.{arith}
 use lib.ListN.{length, getD}
 use Rattle.sheet.specs.Table.{jobOf, dayOf}
-use Rattle.judge.proofs.Keeping.{Kept, kept-first, SlotRead, kept-idle, refused-stranger, refused-job, gets-more, is-paid, kept-busy, kept-decides}
+use Rattle.plan_slots.proofs.Keeping.{Kept, kept-first, SlotRead, kept-idle, refused-stranger, refused-job, gets-more, is-paid, kept-busy, kept-decides}
 use borrow.Author.Needs.{needs}
-use Rattle.judge.proofs.judge_slots.Statement.{statement}
-use Rattle.judge.proofs.judge_slots.Tie as tie
+use Rattle.plan_slots.proofs.judge_slots.Statement.{statement}
+use Rattle.plan_slots.proofs.judge_slots.Tie as tie
 
 abbrev Inv-loop : tie.InvT-loop
 Inv-loop harvest plan t count got₀ level₀ i₀ i-end got level i = (count ≡ t .count) × (i-end ≡ length plan) × (i ≤ i-end) × Kept (dayOf t harvest) plan got level i
