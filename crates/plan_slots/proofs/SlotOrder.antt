@@ -4,7 +4,6 @@ use mathlib.Core.Path.{_≡_, refl, sym, ap, _∙_, subst}
 use mathlib.Core.Bool.{Bool, true, false, cond, not, _&&_}
 use mathlib.Core.List.{List}
 use mathlib.Core.Logic.{_↔_, _⊎_, inl, inr, ⊎-elim}
-use native.Mathlib.Omega.{arith}
 use lib.Dec.{ltb, leb, eqb}
 use borrow.Author.Tests.{le-ltb, lt-leb, ne-eqb, ltb-false, leb-false, eqb-false, not-true}
 use Rattle.sheet.specs.Paper.{Check, gives, refuses, refusesAt, _when_, _else_, inOrder, numberOf}
@@ -13,11 +12,13 @@ use Rattle.sheet.specs.Table.{idleByte, jobOf, Day}
 use Rattle.sheet.proofs.Exactly.{either, never-both}
 use Rattle.sheet.proofs.Order.{Refuses, in-order-decided}
 use Rattle.sheet.proofs.Words.{or-left, or-right, or-false, and-true}
-use Rattle.plan_slots.specs.Numbers.{faultSays}
+use Rattle.plan_slots.specs.Numbers.{faultSays, findingSays}
 use Rattle.plan_slots.specs.Plan.{byteOf, namesJob, slotsGot, levelAt}
 use Rattle.plan_slots.specs.Slots.{namesNothing, outsideWindow, hasAllSlots, lacksCharge, jobSays, slotSays}
 use Rattle.plan_slots.specs.declared.PlanFault.{PlanFault}
 use Rattle.plan_slots.specs.declared.PlanFault.the-variants.{WrongLength, NoJob, OutsideWindow, HasAllSlots, LacksCharge, LacksSlots}
+use Rattle.plan_slots.specs.declared.Finding.{Finding}
+use Rattle.plan_slots.specs.declared.Finding.the-variants.{Nothing, Fault}
 
 -- a slot's refusals by the turn that they have in it, 12 first
 abbrev pub faultAt : ℕ → ℕ → PlanFault
@@ -125,6 +126,13 @@ fault-meant (LacksSlots k) = refl
 -- two refusals that the paper writes alike are one
 pub fault-one : (f g : PlanFault) → faultSays f ≡ faultSays g → f ≡ g
 fault-one f g e = sym (fault-meant f) ∙ ap faultMeant e ∙ fault-meant g
+
+-- and any two findings of which the same is said
+pub one-finding : (x y : Finding) → findingSays x ≡ findingSays y → x ≡ y
+one-finding Nothing Nothing e = refl
+one-finding Nothing (Fault g) e = absurd (fault-not-given g (sym e))
+one-finding (Fault f) Nothing e = absurd (fault-not-given f e)
+one-finding (Fault f) (Fault g) e = ap Fault (fault-one f g e)
 
 -- ---- the tests in words
 

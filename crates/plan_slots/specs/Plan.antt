@@ -1,4 +1,4 @@
--- A plan on a day: "one byte a slot, the job's number or 255 for idle", what each job gets by it, and the level as each slot begins.
+-- A plan on a day, one byte a slot, the job's number or 255 for idle: what each job gets by it, and the level as each slot begins.
 use Prim.Native.Nat.{ℕ, zero, suc, min, _+_, _-_}
 use mathlib.Core.List.{List}
 use mathlib.Core.Bool.{Bool, cond}

@@ -6,13 +6,13 @@ ghost use mathlib.Core.Path.{_≡_};
 ghost use mathlib.Core.Bool.{_&&_};
 ghost use lib.Dec.{ltb, leb};
 ghost use lib.ListN.{length};
-ghost use Prim.Native.Nat.{_≤_};
+ghost use Prim.Native.Nat.{_<_, _≤_};
 ghost use Rattle.sheet.specs.Paper.{numberOf, placeOf};
 ghost use Rattle.sheet.specs.Table.{mostJobs, dayOf};
 ghost use Rattle.sheet.specs.WellFormed.{GoodDay};
 ghost use Rattle.plan_slots.specs.Numbers.{faultSays, findingSays};
-ghost use Rattle.plan_slots.specs.Slots.{jobSays, slotsSay};
-ghost use Rattle.plan_slots.specs.Steps.{endsBy};
+ghost use Rattle.plan_slots.specs.Slots.{slotsSay};
+ghost use Rattle.plan_slots.specs.Steps.{JobLeaves, JoblessLeaves, endsBy};
 
 // Why a plan is refused, with the slot, and for 16 the job, that document 01 names.
 pub enum PlanFault {
@@ -58,12 +58,6 @@ pub fn place(fault: PlanFault) -> usize
     }
 }
 
-// What is found of a part of a plan.
-pub enum Finding {
-    Nothing,
-    Fault(PlanFault),
-}
-
 // A job may run in the slots from its release up to, not including, its deadline.
 fn may_run(j: Job, slot: usize) -> bool
     ensures { λ r. ⌜ r ≡ (leb (j .release) slot && ltb slot (j .deadline)) ⌝ }
@@ -74,22 +68,57 @@ fn may_run(j: Job, slot: usize) -> bool
     slot < j.deadline as usize
 }
 
-// A busy slot: 13, 14 and 15 for its job, which got so many slots before and finds that much charge.
-fn judge_job(j: Job, slot: usize, got: u16, charge: u32) -> Finding
-    ensures { λ r. ⌜ findingSays r ≡ jobSays j slot got charge ⌝ }
+// What is found of a slot.
+enum Passed {
+    // The level as the next slot begins.
+    Level(u16),
+    // The fault that ends the pass.
+    Fault(PlanFault),
+}
+
+// A slot of job j, number k below 64, which finds that much charge: 13, 14 and 15, and where none of
+// them applies the job gets the slot.
+fn judge_job(
+    j: Job,
+    k: usize,
+    slot: usize,
+    capacity: u16,
+    charge: u32,
+    got: &mut [u16; sheet::MOST_JOBS],
+) -> Passed
+    requires { ⌜ k < mostJobs ⌝ }
+    ensures { λ r. ⌜ JobLeaves j k slot capacity charge (now (got .entry)) (now (got .exit)) r ⌝ }
 {
+    let had = got[k];
     let wanted = j.wanted;
     let needed = sheet::widened(j.energy);
     if !may_run(j, slot) {
-        return Finding::Fault(PlanFault::OutsideWindow(slot));
+        return Passed::Fault(PlanFault::OutsideWindow(slot));
     }
-    if wanted <= got {
-        return Finding::Fault(PlanFault::HasAllSlots(slot));
+    if wanted <= had {
+        return Passed::Fault(PlanFault::HasAllSlots(slot));
     }
     if charge < needed {
-        return Finding::Fault(PlanFault::LacksCharge(slot));
+        return Passed::Fault(PlanFault::LacksCharge(slot));
     }
-    Finding::Nothing
+    got[k] = had + 1;
+    Passed::Level(sheet::cut(capacity, charge - needed))
+}
+
+// A slot that is no job's: 12 where it is not idle.
+fn judge_jobless(byte: u8, slot: usize, capacity: u16, charge: u32) -> Passed
+    ensures { λ r. ⌜ JoblessLeaves byte slot capacity charge r ⌝ }
+{
+    if byte == sheet::IDLE {
+        return Passed::Level(sheet::cut(capacity, charge));
+    }
+    Passed::Fault(PlanFault::NoJob(slot))
+}
+
+// What is found of a part of a plan.
+pub enum Finding {
+    Nothing,
+    Fault(PlanFault),
 }
 
 // 16: the lowest job that got fewer slots than it wants. The table has at most 64 jobs.
@@ -115,27 +144,23 @@ pub fn judge_slots(t: Table, harvest: &[u8], plan: &[u8]) -> Finding
     requires { ⌜ GoodDay (dayOf t (now harvest)) × (length (now plan) ≡ t .slots) ⌝ }
     ensures { λ r. ⌜ findingSays r ≡ slotsSay (dayOf t (now (harvest .entry))) (now (plan .entry)) ⌝ }
 {
-    let count = t.count;
     let mut got = [0u16; sheet::MOST_JOBS];
-    let mut level = t.capacity;
+    let count = t.count;
+    let capacity = t.capacity;
+    let mut level = capacity;
     for i in 0..plan.len() {
         let byte = plan[i];
         let charge = sheet::wide(level) + sheet::wide(sheet::counted(harvest[i]));
-        if byte == sheet::IDLE {
-            level = sheet::cut(t.capacity, charge);
-            continue;
-        }
         let k = byte as usize;
-        if count <= k {
-            return Finding::Fault(PlanFault::NoJob(i));
+        let passed = if k < count {
+            judge_job(t.jobs[k], k, i, capacity, charge, &mut got)
+        } else {
+            judge_jobless(byte, i, capacity, charge)
+        };
+        match passed {
+            Passed::Level(next) => level = next,
+            Passed::Fault(fault) => return Finding::Fault(fault),
         }
-        let j = t.jobs[k];
-        let found = judge_job(j, i, got[k], charge);
-        if let Finding::Fault(_) = found {
-            return found;
-        }
-        got[k] = got[k] + 1;
-        level = sheet::cut(t.capacity, charge - sheet::widened(j.energy));
     }
     judge_ends(t, &got)
 }
