@@ -31,9 +31,10 @@ use Rattle.planner.specs.Promise.{plannedSays, Plans}
 use Rattle.planner.proofs.Theorems.{verdict-given}
 use Rattle.planner.specs.declared.Planned.{Planned}
 use Rattle.planner.specs.declared.Planned.the-variants as Planned
-use Rattle.judge.specs.Numbers.{faultSays, noInterval, notOverloaded}
+use Rattle.plan_slots.specs.Numbers.{faultSays}
+use Rattle.plan_slots.specs.declared.PlanFault.{PlanFault}
+use Rattle.judge.specs.Numbers.{noInterval, notOverloaded}
 use Rattle.judge.specs.Promise.{planAnswered, claimAnswered, sumsTold}
-use Rattle.judge.specs.declared.PlanFault.{PlanFault}
 use Rattle.judge.specs.declared.JudgedPlan.{JudgedPlan}
 use Rattle.judge.specs.declared.JudgedPlan.the-variants as Plan
 use Rattle.judge.specs.declared.Sums.{Sums}

@@ -1,60 +1,35 @@
 -- The tests of a plan in words, and that a plan is acceptable exactly when no refusal is stated of it.
 use Prim.Native.Nat.{ℕ, zero, suc, _+_, _-_, _≤_, _<_}
 use mathlib.Core.Path.{_≡_, refl, sym, ap, _∙_, subst}
-use mathlib.Core.Bool.{Bool, true, not, _&&_}
+use mathlib.Core.Bool.{Bool, true, _&&_}
 use mathlib.Core.List.{List}
-use mathlib.Core.Logic.{_↔_, _⊎_, inl, inr, ⊎-elim, Iff·trans}
+use mathlib.Core.Logic.{_↔_, inl, inr, ⊎-elim, Iff·trans}
 use native.Mathlib.Decide.{decLt, decLe, ℕ-discrete}
 use native.Mathlib.Omega.{arith}
-use lib.Dec.{ltb, leb, eqb}
+use lib.Dec.{leb}
 use lib.ListN.{length}
-use borrow.Author.Tests.{lt-ltb, le-ltb, le-leb, lt-leb, ne-eqb, ltb-true, ltb-false, leb-true, leb-false, eqb-false, not-true}
+use borrow.Author.Tests.{lt-ltb, le-leb, ltb-true, leb-true}
 use Rattle.sheet.specs.Paper.{gives}
 use Rattle.sheet.specs.Sums.{harvestAt}
 use Rattle.sheet.specs.Table.{idleByte, jobOf, Day}
-use Rattle.sheet.proofs.Exactly.{either, never-both}
 use Rattle.sheet.proofs.Stated.{below, differs}
-use Rattle.sheet.proofs.Words.{or-left, or-right, or-false, and-left, and-right, and-true}
-use Rattle.judge.specs.Evidence.{byteOf, namesJob, slotsGot, levelAt, AcceptablePlan}
-use Rattle.judge.specs.Judge.{namesNothing, outsideWindow, hasAllSlots, lacksCharge, planSays}
-use Rattle.judge.specs.Numbers.{faultSays}
+use Rattle.sheet.proofs.Words.{and-left, and-right, and-true}
+use Rattle.plan_slots.specs.Numbers.{faultSays}
+use Rattle.plan_slots.specs.Plan.{byteOf, namesJob, slotsGot, levelAt}
+use Rattle.plan_slots.specs.Slots.{outsideWindow, hasAllSlots, lacksCharge}
+use Rattle.plan_slots.specs.declared.PlanFault.{PlanFault}
+use Rattle.plan_slots.specs.declared.PlanFault.the-variants.{WrongLength, NoJob, OutsideWindow, HasAllSlots, LacksCharge, LacksSlots}
+use Rattle.plan_slots.proofs.Judging.{got-none, got-here, got-not-here, got-grows}
+use Rattle.plan_slots.proofs.SlotOrder.{testAt, no-job-words, outside-words}
+use Rattle.judge.specs.Evidence.{AcceptablePlan}
+use Rattle.judge.specs.Judge.{planSays}
 use Rattle.judge.specs.Stated.{RunsIn, planStates, PlanGivenFirst}
-use Rattle.judge.specs.declared.PlanFault.{PlanFault}
-use Rattle.judge.specs.declared.PlanFault.the-variants.{WrongLength, NoJob, OutsideWindow, HasAllSlots, LacksCharge, LacksSlots}
-use Rattle.judge.proofs.Judging.{got-none, got-more, got-here, got-not-here}
-use Rattle.judge.proofs.PlanOrder.{testAt, Applies, refused-exactly, accepted-when-clear}
+use Rattle.judge.proofs.PlanOrder.{Applies, refused-exactly, accepted-when-clear}
 
 at-most : (m n : ℕ) → (leb m n ≡ true) ↔ (m ≤ n)
 at-most m n = (leb-true m n, le-leb m n)
 
--- 13 in words
-outside-words : (release deadline i : ℕ) → (not (leb release i && ltb i deadline) ≡ true) ↔ ((i < release) ⊎ (deadline ≤ i))
-outside-words release deadline i = (
-  (λ e.
-      ⊎-elim
-      (λ a. inr (ltb-false i deadline (⊎-elim (λ b. absurd (never-both (and-true (leb release i) _ a b) (not-true _ e))) (λ b. b) (either (ltb i deadline)))))
-      (λ a. inl (leb-false release i a))
-      (either (leb release i))),
-  (λ s.
-      ⊎-elim
-      (λ h. ap (λ (b : Bool). not (b && ltb i deadline)) (lt-leb release i h))
-      (λ h. ⊎-elim (λ a. ap not (ap (λ (b : Bool). b && ltb i deadline) a ∙ le-ltb i deadline h)) (λ a. ap (λ (b : Bool). not (b && ltb i deadline)) a) (either (leb release i)))
-      s),
-)
-
 module _ (d : Day) (plan : List ℕ) where
-  -- 12 in words
-  no-job-words : (i : ℕ) → (namesNothing d plan i ≡ true) ↔ ((byteOf plan i ≡ idleByte → ⊥) × (d .table .count ≤ byteOf plan i))
-  unfolding namesNothing
-  no-job-words i = (
-    (λ e.
-        let none = not-true _ e in (
-          eqb-false _ _ (or-left (eqb (byteOf plan i) idleByte) (namesJob d plan i) none),
-          ltb-false _ _ (or-right (eqb (byteOf plan i) idleByte) (namesJob d plan i) none),
-        )),
-    (λ w. ap not (or-false (eqb (byteOf plan i) idleByte) (namesJob d plan i) (ne-eqb _ _ (w .0)) (le-ltb _ _ (w .1)))),
-  )
-
   -- a test of the slot's job in words
   of-its-job : (i : ℕ) (test : ℕ → Bool) (P : ℕ → Type 0) → ((k : ℕ) → (test k ≡ true) ↔ P k)
       → ((i < d .table .slots) × ((namesJob d plan i && test (byteOf plan i)) ≡ true)) ↔ ((k : ℕ) × RunsIn d plan k i × P k)
@@ -76,8 +51,8 @@ module _ (d : Day) (plan : List ℕ) where
   unfolding testAt
   applies-stated WrongLength = differs (length plan) (d .table .slots)
   applies-stated (NoJob i) = (
-    (λ a. let w = no-job-words i .0 (a .1) in (a .0, w .0, w .1)),
-    (λ s. (s .0, no-job-words i .1 (s .1, s .2))),
+    (λ a. let w = no-job-words d plan i .0 (a .1) in (a .0, w .0, w .1)),
+    (λ s. (s .0, no-job-words d plan i .1 (s .1, s .2))),
   )
   applies-stated (OutsideWindow i) =
       of-its-job i (λ k. outsideWindow (jobOf (d .table) k) i) _ (λ k. outside-words (jobOf (d .table) k .release) (jobOf (d .table) k .deadline) i)
@@ -101,14 +76,6 @@ module _ (d : Day) (plan : List ℕ) where
 
   -- ---- an acceptable plan
 
-  got-grows : (k i n : ℕ) → slotsGot plan k i ≤ slotsGot plan k (i + n)
-  got-grows k i zero = let here : i + 0 ≡ i = omega arith in rw here (omega arith)
-  got-grows k i (suc n) =
-      let here : i + suc n ≡ i + n + 1 = omega arith in
-      let more = got-more plan k (i + n) in
-      let before = got-grows k i n in
-      rw here (omega arith)
-
   abbrev NoneStated : Type 0
   NoneStated = (f : PlanFault) → planStates d plan f → ⊥
 
@@ -124,7 +91,7 @@ module _ (d : Day) (plan : List ℕ) where
       let h = runs .0 in
       let gets = ok .gets-its-slots k (runs .1) in
       let here = got-here plan k i (runs .2) in
-      let later = got-grows k (i + 1) (d .table .slots - (i + 1)) in
+      let later = got-grows plan k (i + 1) (d .table .slots - (i + 1)) in
       let end : i + 1 + (d .table .slots - (i + 1)) ≡ d .table .slots = omega arith in
       let most : slotsGot plan k (i + 1) ≤ slotsGot plan k (d .table .slots) = subst (λ (n : ℕ). slotsGot plan k (i + 1) ≤ slotsGot plan k n) end later in
       omega arith

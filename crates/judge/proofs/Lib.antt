@@ -1,7 +1,5 @@
 pub mod Acceptable
 pub mod ClaimWords
-pub mod Judging
-pub mod Keeping
 pub mod PlanOrder
 pub mod Promised
 pub mod Theorems

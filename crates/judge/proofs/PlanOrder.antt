@@ -1,7 +1,7 @@
 -- The order of a plan's refusals: each slot asks four tests in turn, and the first that holds anywhere is the answer.
 use Prim.Native.Nat.{ℕ, zero, suc, _+_, _-_, _*_, _/_, _%_, _≤_, _<_}
 use mathlib.Core.Path.{_≡_, refl, sym, ap, _∙_, subst}
-use mathlib.Core.Bool.{Bool, true, false, cond, not, _&&_}
+use mathlib.Core.Bool.{Bool, true, false, cond, not}
 use mathlib.Core.List.{List}
 use mathlib.Core.Logic.{_↔_, _⊎_, inl, inr, ⊎-elim}
 use native.Mathlib.Decide.{decLt}
@@ -9,28 +9,22 @@ use native.Mathlib.Omega.{arith}
 use lib.Dec.{ltb, eqb}
 use lib.ListN.{length}
 use borrow.Author.Tests.{lt-ltb, le-ltb, ne-eqb}
-use Rattle.sheet.specs.Paper.{Check, gives, refuses, refusesAt, _when_, _else_, inOrder, numberOf}
-use Rattle.sheet.specs.Sums.{harvestAt}
+use Rattle.sheet.specs.Paper.{Check, gives, _when_, _else_, inOrder}
 use Rattle.sheet.specs.Table.{jobOf, Day}
 use Rattle.sheet.proofs.Exactly.{either, never-both}
 use Rattle.sheet.proofs.Order.{Refuses, else-stays, else-goes-on, in-order-decided}
-use Rattle.judge.specs.Evidence.{byteOf, namesJob, slotsGot, levelAt}
-use Rattle.judge.specs.Judge.{namesNothing, outsideWindow, hasAllSlots, lacksCharge, jobSays, slotSays, endSays, slotsSay, planSays}
-use Rattle.judge.specs.Numbers.{faultSays}
+use Rattle.plan_slots.specs.Numbers.{faultSays}
+use Rattle.plan_slots.specs.Plan.{slotsGot}
+use Rattle.plan_slots.specs.Slots.{slotSays, endSays, slotsSay}
+use Rattle.plan_slots.specs.declared.PlanFault.{PlanFault}
+use Rattle.plan_slots.specs.declared.PlanFault.the-variants.{WrongLength, NoJob, OutsideWindow, HasAllSlots, LacksCharge, LacksSlots}
+use Rattle.plan_slots.proofs.SlotOrder.{faultAt, fault-not-given, given-test, refused-test, testAt, slot-decided, slot-clear, fault-one}
+use Rattle.judge.specs.Judge.{planSays}
 use Rattle.judge.specs.Stated.{planTurn}
-use Rattle.judge.specs.declared.PlanFault.{PlanFault}
-use Rattle.judge.specs.declared.PlanFault.the-variants.{WrongLength, NoJob, OutsideWindow, HasAllSlots, LacksCharge, LacksSlots}
 
 -- what 16 asks of job k
 abbrev pub lacksSlots : Day → List ℕ → ℕ → Bool
 lacksSlots d plan k = ltb (slotsGot plan k (d .table .slots)) (jobOf (d .table) k .wanted)
-
--- a slot's refusals by the turn that they have in it, 12 first
-abbrev pub faultAt : ℕ → ℕ → PlanFault
-faultAt zero i = NoJob i
-faultAt (suc zero) i = OutsideWindow i
-faultAt (suc (suc zero)) i = HasAllSlots i
-faultAt (suc (suc (suc m))) i = LacksCharge i
 
 fault-turn : (d : Day) (m i : ℕ) → m < 4 → planTurn d (faultAt m i) ≡ 4 * i + 1 + m
 fault-turn d zero i h = omega arith
@@ -39,96 +33,21 @@ fault-turn d (suc (suc zero)) i h = omega arith
 fault-turn d (suc (suc (suc zero))) i h = omega arith
 fault-turn d (suc (suc (suc (suc m)))) i h = absurd (omega arith)
 
--- a refusal refuses, so what its check gave tells the test
-pub fault-refuses : (f : PlanFault) → Refuses (faultSays f)
-fault-refuses WrongLength = tt
-fault-refuses (NoJob i) = tt
-fault-refuses (OutsideWindow i) = tt
-fault-refuses (HasAllSlots i) = tt
-fault-refuses (LacksCharge i) = tt
-fault-refuses (LacksSlots k) = tt
-
-pub fault-not-given : (f : PlanFault) → faultSays f ≡ gives tt → ⊥
-fault-not-given f e = subst Refuses e (fault-refuses f)
-
-given-test : (f : PlanFault) (b : Bool) → (faultSays f when b) ≡ gives tt → b ≡ false
-given-test f true e = absurd (fault-not-given f e)
-given-test f false e = refl
-
-refused-test : (f : PlanFault) (b : Bool) → Refuses (faultSays f when b) → b ≡ true
-refused-test f true r = refl
-refused-test f false r = absurd r
-
 module _ (d : Day) (plan : List ℕ) where
-  -- ---- the tests of a slot
-
-  unfoldable pub testAt : ℕ → ℕ → Bool
-  testAt zero i = namesNothing d plan i
-  testAt (suc zero) i = namesJob d plan i && outsideWindow (jobOf (d .table) (byteOf plan i)) i
-  testAt (suc (suc zero)) i = namesJob d plan i && hasAllSlots (jobOf (d .table) (byteOf plan i)) (slotsGot plan (byteOf plan i) i)
-  testAt (suc (suc (suc m))) i = namesJob d plan i && lacksCharge (jobOf (d .table) (byteOf plan i)) (levelAt d plan i + harvestAt (d .harvest) i)
-
-  inSlot : ℕ → ℕ → Check
-  inSlot i m = faultSays (faultAt m i) when testAt m i
-
-  four-tests : (i : ℕ) (a n b d e : Bool)
-      → (faultSays (NoJob i) when a
-      else cond n (faultSays (OutsideWindow i) when b else faultSays (HasAllSlots i) when d else faultSays (LacksCharge i) when e) (gives tt))
-      ≡ (((faultSays (NoJob i) when a else faultSays (OutsideWindow i) when (n && b)) else faultSays (HasAllSlots i) when (n && d)) else faultSays (LacksCharge i) when (n && e))
-  four-tests i true n b d e = refl
-  four-tests i false true true d e = refl
-  four-tests i false true false true e = refl
-  four-tests i false true false false e = refl
-  four-tests i false false b d e = refl
-
-  slot-in-turn : (i : ℕ) → slotSays d plan i ≡ inOrder (inSlot i) 4
-  unfolding slotSays jobSays inOrder inSlot testAt
-  slot-in-turn i =
-      four-tests i (namesNothing d plan i) (namesJob d plan i) (outsideWindow (jobOf (d .table) (byteOf plan i)) i)
-      (hasAllSlots (jobOf (d .table) (byteOf plan i)) (slotsGot plan (byteOf plan i) i))
-      (lacksCharge (jobOf (d .table) (byteOf plan i)) (levelAt d plan i + harvestAt (d .harvest) i))
-
-  -- a slot refuses nothing, and no test holds; or the first that holds is the answer
-  abbrev SlotDecided : ℕ → Type 0
-  SlotDecided i =
-      (((m : ℕ) → m < 4 → testAt m i ≡ false) × (slotSays d plan i ≡ gives tt))
-      ⊎ ((m : ℕ) × (m < 4) × ((n : ℕ) → n < m → testAt n i ≡ false) × (testAt m i ≡ true) × (slotSays d plan i ≡ faultSays (faultAt m i)))
-
-  slot-decided : (i : ℕ) → SlotDecided i
-  unfolding inSlot
-  slot-decided i =
-      ⊎-elim
-      (λ c. inl ((λ m h. given-test (faultAt m i) (testAt m i) (c .0 m h)), slot-in-turn i ∙ c .1))
-      (λ w.
-      let m = w .0 in
-      let holds = refused-test (faultAt m i) (testAt m i) (w .3) in
-      inr (
-        m,
-        w .1,
-        (λ n l. given-test (faultAt n i) (testAt n i) (w .2 n l)),
-        holds,
-        slot-in-turn i ∙ w .4 ∙ ap (λ (b : Bool). faultSays (faultAt m i) when b) holds,
-      ))
-      (in-order-decided (inSlot i) 4)
-
-  slot-clear : (i : ℕ) → slotSays d plan i ≡ gives tt → (m : ℕ) → m < 4 → testAt m i ≡ false
-  slot-clear i e =
-      ⊎-elim (λ c. c .0) (λ w. absurd (fault-not-given (faultAt (w .0) i) (sym (w .4) ∙ e))) (slot-decided i)
-
   -- ---- a refusal applies, by itself
 
   abbrev pub Applies : PlanFault → Type 0
   Applies WrongLength = not (eqb (length plan) (d .table .slots)) ≡ true
-  Applies (NoJob i) = (i < d .table .slots) × (testAt 0 i ≡ true)
-  Applies (OutsideWindow i) = (i < d .table .slots) × (testAt 1 i ≡ true)
-  Applies (HasAllSlots i) = (i < d .table .slots) × (testAt 2 i ≡ true)
-  Applies (LacksCharge i) = (i < d .table .slots) × (testAt 3 i ≡ true)
+  Applies (NoJob i) = (i < d .table .slots) × (testAt d plan 0 i ≡ true)
+  Applies (OutsideWindow i) = (i < d .table .slots) × (testAt d plan 1 i ≡ true)
+  Applies (HasAllSlots i) = (i < d .table .slots) × (testAt d plan 2 i ≡ true)
+  Applies (LacksCharge i) = (i < d .table .slots) × (testAt d plan 3 i ≡ true)
   Applies (LacksSlots k) = (k < d .table .count) × (lacksSlots d plan k ≡ true)
 
   abbrev pub FirstIs : PlanFault → Type 0
   FirstIs f = Applies f × ((g : PlanFault) → planTurn d g < planTurn d f → Applies g → ⊥)
 
-  at-turn : (m i : ℕ) → m < 4 → i < d .table .slots → testAt m i ≡ true → Applies (faultAt m i)
+  at-turn : (m i : ℕ) → m < 4 → i < d .table .slots → testAt d plan m i ≡ true → Applies (faultAt m i)
   at-turn zero i h l e = (l, e)
   at-turn (suc zero) i h l e = (l, e)
   at-turn (suc (suc zero)) i h l e = (l, e)
@@ -153,12 +72,12 @@ module _ (d : Day) (plan : List ℕ) where
     says-rest = rw fits
 
     -- the slots before i are clear, and so are the tests of slot i before the m-th
-    module _ (i m : ℕ) (clean : (j : ℕ) → j < i → (n : ℕ) → n < 4 → testAt n j ≡ false) (lower : (n : ℕ) → n < m → testAt n i ≡ false) where
-      not-earlier : (n j : ℕ) → n < 4 → 4 * j + 1 + n < 4 * i + 1 + m → m < 4 → testAt n j ≡ true → ⊥
+    module _ (i m : ℕ) (clean : (j : ℕ) → j < i → (n : ℕ) → n < 4 → testAt d plan n j ≡ false) (lower : (n : ℕ) → n < m → testAt d plan n i ≡ false) where
+      not-earlier : (n j : ℕ) → n < 4 → 4 * j + 1 + n < 4 * i + 1 + m → m < 4 → testAt d plan n j ≡ true → ⊥
       not-earlier n j small h few e =
           elim (decLt j i) [
             | yes l ↦ never-both e (clean j l n small)
-            | no l ↦ let same : i ≡ j = omega arith in never-both e (subst (λ (s : ℕ). testAt n s ≡ false) same (lower n (omega arith)))
+            | no l ↦ let same : i ≡ j = omega arith in never-both e (subst (λ (s : ℕ). testAt d plan n s ≡ false) same (lower n (omega arith)))
           ]
 
       none-before : m < 4 → (g : PlanFault) → planTurn d g < 4 * i + 1 + m → i < d .table .slots → Applies g → ⊥
@@ -169,8 +88,8 @@ module _ (d : Day) (plan : List ℕ) where
       none-before few (LacksCharge j) h l a = not-earlier 3 j (omega arith) (omega arith) few (a .1)
       none-before few (LacksSlots k) h l a = omega arith
 
-    given-slot : (i m : ℕ) → i < d .table .slots → m < 4 → ((j : ℕ) → j < i → slotSays d plan j ≡ gives tt) → ((n : ℕ) → n < m → testAt n i ≡ false)
-        → testAt m i ≡ true → planSays d plan ≡ faultSays (faultAt m i) → Decided
+    given-slot : (i m : ℕ) → i < d .table .slots → m < 4 → ((j : ℕ) → j < i → slotSays d plan j ≡ gives tt) → ((n : ℕ) → n < m → testAt d plan n i ≡ false)
+        → testAt d plan m i ≡ true → planSays d plan ≡ faultSays (faultAt m i) → Decided
     given-slot i m l few before lower holds says =
         inr (
           faultAt m i,
@@ -178,13 +97,13 @@ module _ (d : Day) (plan : List ℕ) where
           (
             at-turn m i few l holds,
             (λ g h a.
-                none-before i m (λ j s. slot-clear j (before j s)) lower few g (subst (λ (n : ℕ). planTurn d g < n) (fault-turn d m i few) h) l a),
+                none-before i m (λ j s. slot-clear d plan j (before j s)) lower few g (subst (λ (n : ℕ). planTurn d g < n) (fault-turn d m i few) h) l a),
           ),
         )
 
     module _ (clear : (i : ℕ) → i < d .table .slots → slotSays d plan i ≡ gives tt) where
-      no-slot : (m i : ℕ) → m < 4 → i < d .table .slots → testAt m i ≡ true → ⊥
-      no-slot m i few l e = never-both e (slot-clear i (clear i l) m few)
+      no-slot : (m i : ℕ) → m < 4 → i < d .table .slots → testAt d plan m i ≡ true → ⊥
+      no-slot m i few l e = never-both e (slot-clear d plan i (clear i l) m few)
 
       none-at-all : ((k : ℕ) → k < d .table .count → lacksSlots d plan k ≡ false) → (g : PlanFault) → Applies g → ⊥
       none-at-all ends WrongLength a = never-both a fits
@@ -228,7 +147,7 @@ module _ (d : Day) (plan : List ℕ) where
         ∙ ap (λ (c : Check). c else inOrder (endSays d plan) (d .table .count)) says
         ∙ else-stays (slotSays d plan i) _ refused
         ∙ w .4))
-        (slot-decided i)
+        (slot-decided d plan i)
 
   -- nothing applies, and the plan is accepted; or what applies first is the answer
   pub decided : Decided
@@ -280,30 +199,6 @@ module _ (d : Day) (plan : List ℕ) where
                   sym (turn-back f (a .0)) ∙ ap atTurn same ∙ turn-back g (b .0)
             ]
       ]
-
--- ---- a refusal is told by its number and place
-
-unfoldable pub faultMeant : Check → PlanFault
-faultMeant (gives x) = WrongLength
-faultMeant (refuses n) = WrongLength
-faultMeant (refusesAt n k) =
-    cond (eqb n (numberOf (faultSays (NoJob k)))) (NoJob k)
-    (cond (eqb n (numberOf (faultSays (OutsideWindow k)))) (OutsideWindow k)
-    (cond (eqb n (numberOf (faultSays (HasAllSlots k)))) (HasAllSlots k)
-    (cond (eqb n (numberOf (faultSays (LacksCharge k)))) (LacksCharge k) (LacksSlots k))))
-
-pub fault-meant : (f : PlanFault) → faultMeant (faultSays f) ≡ f
-unfolding faultMeant
-fault-meant WrongLength = refl
-fault-meant (NoJob i) = refl
-fault-meant (OutsideWindow i) = refl
-fault-meant (HasAllSlots i) = refl
-fault-meant (LacksCharge i) = refl
-fault-meant (LacksSlots k) = refl
-
--- two refusals that the paper writes alike are one
-pub fault-one : (f g : PlanFault) → faultSays f ≡ faultSays g → f ≡ g
-fault-one f g e = sym (fault-meant f) ∙ ap faultMeant e ∙ fault-meant g
 
 -- ---- exactly when
 

@@ -19,20 +19,21 @@ use Rattle.sheet.specs.declared.Table.{Table}
 use Rattle.sheet.proofs.HandedIn.{check-leaves, hands-on, past-check, called-there}
 use Rattle.sheet.proofs.Refusals.{refusal-gives-nothing}
 use Rattle.sheet.proofs.Words.{or-left, or-right}
+use Rattle.plan_slots.specs.Numbers.{findingSays}
+use Rattle.plan_slots.specs.Slots.{slotsSay}
+use Rattle.plan_slots.specs.declared.PlanFault.{PlanFault}
+use Rattle.plan_slots.specs.declared.PlanFault.the-variants.{WrongLength}
+use Rattle.plan_slots.specs.declared.Finding.{Finding}
+use Rattle.plan_slots.specs.declared.Finding.the-variants.{Nothing, Fault}
 use Rattle.reader.specs.Promise.{Reads, harvestBehind}
 use Rattle.reader.specs.declared.Reading.{Reading}
 use Rattle.reader.proofs.Harvesting.{read-refuses, read-leaves, read-day}
 use Rattle.demand.specs.Demand.{kindNumber, demandOf, supplyOf, overloaded}
 use Rattle.demand.specs.declared.Kind.{Kind}
 use Rattle.demand.specs.declared.Kind.the-variants.{Time, Energy}
-use Rattle.judge.specs.Judge.{slotsSay, planSays, judgedPlan, kindOf, claimFault, claimSays, judgedClaim, noSums, sumsOf, judgedSums}
+use Rattle.judge.specs.Judge.{planSays, judgedPlan, kindOf, claimFault, claimSays, judgedClaim, noSums, sumsOf, judgedSums}
 use Rattle.judge.specs.Numbers.{noInterval}
 use Rattle.judge.specs.Promise.{planAnswered, JudgesPlan, JudgesClaim}
-use Rattle.judge.specs.Steps.{findingSays}
-use Rattle.judge.specs.declared.PlanFault.{PlanFault}
-use Rattle.judge.specs.declared.PlanFault.the-variants.{WrongLength}
-use Rattle.judge.specs.declared.Finding.{Finding}
-use Rattle.judge.specs.declared.Finding.the-variants.{Nothing, Fault}
 use Rattle.judge.specs.declared.JudgedPlan.{JudgedPlan}
 use Rattle.judge.specs.declared.JudgedPlan.the-variants as Plan
 use Rattle.judge.specs.declared.Sums.{Sums}

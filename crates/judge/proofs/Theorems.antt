@@ -16,14 +16,16 @@ use Rattle.sheet.specs.declared.Refusal.{Refusal}
 use Rattle.sheet.specs.declared.Table.{Table}
 use Rattle.sheet.proofs.HandedIn.{check-leaves, handed-on-exactly, own-exactly}
 use Rattle.sheet.proofs.Refusals.{byRefusal, by-refusal, said-one, said-exactly, sheetHas, Own, own-given, own-number, own-else}
+use Rattle.plan_slots.specs.Numbers.{faultSays}
+use Rattle.plan_slots.specs.declared.PlanFault.{PlanFault}
+use Rattle.plan_slots.specs.declared.PlanFault.the-variants.{WrongLength, NoJob, OutsideWindow, HasAllSlots, LacksCharge, LacksSlots}
+use Rattle.plan_slots.proofs.SlotOrder.{faultMeant}
 use Rattle.demand.specs.Demand.{overloaded}
 use Rattle.judge.specs.Evidence.{AcceptablePlan, AcceptableClaim}
 use Rattle.judge.specs.Judge.{planSays, judgedPlan, kindOf, claimFault, claimSays, judgedClaim, sumsOf, judgedSums}
 use Rattle.judge.specs.Promise.{planAnswered, JudgesPlan, claimAnswered, sumsTold, JudgesClaim}
-use Rattle.judge.specs.Numbers.{faultSays, noInterval, notOverloaded}
+use Rattle.judge.specs.Numbers.{noInterval, notOverloaded}
 use Rattle.judge.specs.Stated.{PlanGivenFirst, ClaimStated, NotOverloadedStated, SumsAre}
-use Rattle.judge.specs.declared.PlanFault.{PlanFault}
-use Rattle.judge.specs.declared.PlanFault.the-variants.{WrongLength, NoJob, OutsideWindow, HasAllSlots, LacksCharge, LacksSlots}
 use Rattle.judge.specs.declared.JudgedPlan.{JudgedPlan}
 use Rattle.judge.specs.declared.JudgedPlan.the-variants as Plan
 use Rattle.judge.specs.declared.Sums.{Sums}
@@ -31,7 +33,7 @@ use Rattle.judge.specs.declared.JudgedClaim.{JudgedClaim}
 use Rattle.judge.specs.declared.JudgedClaim.the-variants as Claim
 use Rattle.judge.proofs.Acceptable.{given-exactly, acceptable-exactly}
 use Rattle.judge.proofs.ClaimWords.{kind-meant, kind-number, kind-of-number, IsInterval, is-interval, interval-words, claim-accepted, claim-seventeen, claim-eighteen}
-use Rattle.judge.proofs.PlanOrder.{decided, faultMeant}
+use Rattle.judge.proofs.PlanOrder.{decided}
 
 -- ---- a plan
 

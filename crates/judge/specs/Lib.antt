@@ -3,4 +3,3 @@ pub mod Judge
 pub mod Numbers
 pub mod Promise
 pub mod Stated
-pub mod Steps

@@ -5,8 +5,9 @@ use mathlib.Core.List.{List}
 use Rattle.sheet.specs.HandedIn.{HandedIn}
 use Rattle.sheet.specs.Paper.{Check, gives}
 use Rattle.sheet.specs.Refusals.{refusalSays}
+use Rattle.plan_slots.specs.Numbers.{faultSays}
 use Rattle.judge.specs.Judge.{judgedPlan, judgedClaim, noSums, judgedSums}
-use Rattle.judge.specs.Numbers.{faultSays, noInterval, notOverloaded}
+use Rattle.judge.specs.Numbers.{noInterval, notOverloaded}
 use Rattle.judge.specs.declared.JudgedPlan.{JudgedPlan}
 use Rattle.judge.specs.declared.JudgedPlan.the-variants as Plan
 use Rattle.judge.specs.declared.Sums.{Sums}

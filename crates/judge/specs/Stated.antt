@@ -7,13 +7,13 @@ use mathlib.Core.Logic.{_⊎_}
 use lib.ListN.{length}
 use Rattle.sheet.specs.Sums.{harvestAt}
 use Rattle.sheet.specs.Table.{idleByte, jobOf, Day}
+use Rattle.plan_slots.specs.Plan.{byteOf, slotsGot, levelAt}
+use Rattle.plan_slots.specs.declared.PlanFault.{PlanFault}
+use Rattle.plan_slots.specs.declared.PlanFault.the-variants.{WrongLength, NoJob, OutsideWindow, HasAllSlots, LacksCharge, LacksSlots}
 use Rattle.demand.specs.Demand.{kindNumber, demandOf, supplyOf}
 use Rattle.demand.specs.declared.Kind.{Kind}
 use Rattle.demand.specs.declared.Kind.the-variants.{Time, Energy}
-use Rattle.judge.specs.Evidence.{byteOf, slotsGot, levelAt}
-use Rattle.judge.specs.declared.PlanFault.{PlanFault}
 use Rattle.judge.specs.declared.Sums.{Sums}
-use Rattle.judge.specs.declared.PlanFault.the-variants.{WrongLength, NoJob, OutsideWindow, HasAllSlots, LacksCharge, LacksSlots}
 
 -- slot i of the day is job k's
 abbrev pub RunsIn : Day → List ℕ → ℕ → ℕ → Type 0

@@ -2,42 +2,27 @@
 // day can be run by it, an interval exactly when its demand exceeds its supply. The judge knows the
 // sheet and what demand is, and nothing of the run or the planner.
 use demand::Kind;
+use plan_slots::Finding;
+pub use plan_slots::PlanFault;
+pub use plan_slots::number;
+pub use plan_slots::place;
 use sheet::Job;
 use sheet::Outcome;
 use sheet::Refusal;
 use sheet::Table;
 ghost use mathlib.Core.Path.{_≡_};
-ghost use mathlib.Core.Bool.{_&&_};
-ghost use lib.Dec.{ltb, leb};
 ghost use lib.ListN.{length};
+ghost use mathlib.Core.Bool.{cond};
 ghost use mathlib.Core.List.{List};
 ghost use Prim.Native.Nat.{ℕ, _<_, _≤_};
 ghost use Rattle.sheet.specs.HandedIn.{onSheet, onTable};
-ghost use Rattle.sheet.specs.Paper.{numberOf, placeOf};
+ghost use Rattle.sheet.specs.Paper.{numberOf};
 ghost use Rattle.sheet.specs.Sums.{harvestOf, mostHarvest, mostCost};
 ghost use Rattle.sheet.specs.Table.{mostJobs, mostSlots, dayOf};
 ghost use Rattle.sheet.specs.WellFormed.{GoodDay};
-ghost use Rattle.demand.specs.Demand.{shareOf, demandOf};
-ghost use Rattle.judge.specs.Judge.{jobSays, slotsSay, claimFault, kindOf, sumsOf};
-ghost use Rattle.judge.specs.Numbers.{faultSays};
+ghost use Rattle.demand.specs.Demand.{within, shareOf, demandOf};
+ghost use Rattle.judge.specs.Judge.{claimFault, kindOf, sumsOf};
 ghost use Rattle.judge.specs.Promise.{claimAnswered, JudgesPlan, JudgesClaim};
-ghost use Rattle.judge.specs.Steps.{findingSays, endsBy};
-
-// Why a plan is refused, with the slot, and for 16 the job, that document 01 names.
-pub enum PlanFault {
-    // 11: the plan is not of slots bytes
-    WrongLength,
-    // 12: this slot's byte is neither 255 nor a job's number
-    NoJob(usize),
-    // 13: this slot's job may not run in it
-    OutsideWindow(usize),
-    // 14: this slot's job already has all its slots
-    HasAllSlots(usize),
-    // 15: level plus harvest of this slot is below its job's energy
-    LacksCharge(usize),
-    // 16: after the last slot this job lacks slots; it is the lowest such job
-    LacksSlots(usize),
-}
 
 // The answer to a plan.
 pub enum JudgedPlan {
@@ -68,34 +53,6 @@ pub enum JudgedClaim {
     Accepted(Sums),
 }
 
-// The number in document 01 of a plan's refusal.
-pub fn number(fault: PlanFault) -> u8
-    ensures { λ r. ⌜ r ≡ numberOf (faultSays fault) ⌝ }
-{
-    match fault {
-        PlanFault::WrongLength => 11,
-        PlanFault::NoJob(_) => 12,
-        PlanFault::OutsideWindow(_) => 13,
-        PlanFault::HasAllSlots(_) => 14,
-        PlanFault::LacksCharge(_) => 15,
-        PlanFault::LacksSlots(_) => 16,
-    }
-}
-
-// The slot, or for 16 the job, that a plan's refusal names; 0 where it names none.
-pub fn place(fault: PlanFault) -> usize
-    ensures { λ r. ⌜ r ≡ placeOf (faultSays fault) ⌝ }
-{
-    match fault {
-        PlanFault::WrongLength => 0,
-        PlanFault::NoJob(slot) => slot,
-        PlanFault::OutsideWindow(slot) => slot,
-        PlanFault::HasAllSlots(slot) => slot,
-        PlanFault::LacksCharge(slot) => slot,
-        PlanFault::LacksSlots(job) => job,
-    }
-}
-
 // The numbers in document 01 of a claim's two refusals.
 pub const NO_INTERVAL: u8 = 17;
 
@@ -113,87 +70,6 @@ pub fn claim_number(answer: JudgedClaim) -> u8
     }
 }
 
-// What is found of a part of a plan.
-enum Finding {
-    Nothing,
-    Fault(PlanFault),
-}
-
-// A job may run in the slots from its release up to, not including, its deadline.
-fn may_run(j: Job, slot: usize) -> bool
-    ensures { λ r. ⌜ r ≡ (leb (j .release) slot && ltb slot (j .deadline)) ⌝ }
-{
-    if slot < j.release as usize {
-        return false;
-    }
-    slot < j.deadline as usize
-}
-
-// A busy slot: 13, 14 and 15 for its job, which got so many slots before and finds that much charge.
-fn judge_job(j: Job, slot: usize, got: u16, charge: u32) -> Finding
-    ensures { λ r. ⌜ findingSays r ≡ jobSays j slot got charge ⌝ }
-{
-    let wanted = j.wanted;
-    let needed = sheet::widened(j.energy);
-    if !may_run(j, slot) {
-        return Finding::Fault(PlanFault::OutsideWindow(slot));
-    }
-    if wanted <= got {
-        return Finding::Fault(PlanFault::HasAllSlots(slot));
-    }
-    if charge < needed {
-        return Finding::Fault(PlanFault::LacksCharge(slot));
-    }
-    Finding::Nothing
-}
-
-// 16: the lowest job that got fewer slots than it wants. The table has at most 64 jobs.
-fn judge_ends(t: Table, got: &[u16; sheet::MOST_JOBS]) -> Finding
-    requires { ⌜ t .count ≤ mostJobs ⌝ }
-    ensures { λ r. ⌜ findingSays r ≡ endsBy t (now (got .entry)) ⌝ }
-{
-    let count = t.count;
-    let mut k = 0;
-    while k < count {
-        if got[k] < t.jobs[k].wanted {
-            return Finding::Fault(PlanFault::LacksSlots(k));
-        }
-        k += 1;
-    }
-    Finding::Nothing
-}
-
-// 12 to 16, in one pass over a plan of slots bytes: the slots that each job got so far and the level
-// are carried along. The table and the harvest were checked.
-fn judge_slots(t: Table, harvest: &[u8], plan: &[u8]) -> Finding
-    requires { ⌜ GoodDay (dayOf t (now harvest)) × (length (now plan) ≡ t .slots) ⌝ }
-    ensures { λ r. ⌜ findingSays r ≡ slotsSay (dayOf t (now (harvest .entry))) (now (plan .entry)) ⌝ }
-{
-    let count = t.count;
-    let mut got = [0u16; sheet::MOST_JOBS];
-    let mut level = t.capacity;
-    for i in 0..plan.len() {
-        let byte = plan[i];
-        let charge = sheet::wide(level) + sheet::wide(sheet::counted(harvest[i]));
-        if byte == sheet::IDLE {
-            level = sheet::cut(t.capacity, charge);
-            continue;
-        }
-        let k = byte as usize;
-        if count <= k {
-            return Finding::Fault(PlanFault::NoJob(i));
-        }
-        let j = t.jobs[k];
-        let found = judge_job(j, i, got[k], charge);
-        if let Finding::Fault(_) = found {
-            return found;
-        }
-        got[k] = got[k] + 1;
-        level = sheet::cut(t.capacity, charge - sheet::widened(j.energy));
-    }
-    judge_ends(t, &got)
-}
-
 // 11 to 16, for a table and a harvest that were checked.
 fn judge_plan(t: Table, harvest: &[u8], plan: &[u8]) -> JudgedPlan
     requires { ⌜ GoodDay (dayOf t (now harvest)) ⌝ }
@@ -202,7 +78,7 @@ fn judge_plan(t: Table, harvest: &[u8], plan: &[u8]) -> JudgedPlan
     if plan.len() != t.slots as usize {
         return JudgedPlan::Faulty(PlanFault::WrongLength);
     }
-    match judge_slots(t, harvest, plan) {
+    match plan_slots::judge_slots(t, harvest, plan) {
         Finding::Nothing => JudgedPlan::Accepted,
         Finding::Fault(fault) => JudgedPlan::Faulty(fault),
     }
@@ -264,10 +140,14 @@ fn kind_of(kind: u64) -> Kind
     }
 }
 
-// What a job of an interval adds to its demand: its slots wanted, or what they cost.
-fn share(kind: Kind, j: Job) -> u32
-    ensures { λ r. ⌜ (r ≡ shareOf kind j) × (r ≤ mostCost) ⌝ }
+// What a job adds to the demand of an interval: its slots wanted, or what they cost, where it is one of
+// the interval's jobs, and otherwise nothing.
+fn share(kind: Kind, from: u16, to: u16, j: Job) -> u32
+    ensures { λ r. ⌜ (r ≡ cond (within from to j) (shareOf kind j) 0) × (r ≤ mostCost) ⌝ }
 {
+    if !demand::is_within(from, to, j.release, j.deadline) {
+        return 0;
+    }
     match kind {
         Kind::Time => sheet::wide(j.wanted),
         Kind::Energy => sheet::cost(j.wanted, j.energy),
@@ -283,9 +163,7 @@ fn demand_of(t: Table, kind: Kind, from: u16, to: u16) -> u32
     let mut demand: u32 = 0;
     let mut k = 0;
     while k < count {
-        if demand::is_within(from, to, t.jobs[k].release, t.jobs[k].deadline) {
-            demand += share(kind, t.jobs[k]);
-        }
+        demand += share(kind, from, to, t.jobs[k]);
         k += 1;
     }
     demand

@@ -14,16 +14,16 @@ use Rattle.sheet.proofs.Stated.{sheet-leaves}
 use Rattle.reader.specs.Promise.{Reads}
 use Rattle.reader.specs.declared.Reading.{Reading}
 use Rattle.reader.proofs.Yielding.{table-given}
+use Rattle.plan_slots.specs.declared.PlanFault.{PlanFault}
+use Rattle.plan_slots.specs.declared.PlanFault.the-variants.{WrongLength, NoJob, OutsideWindow, HasAllSlots, LacksCharge, LacksSlots}
+use Rattle.plan_slots.proofs.Judging.{byte-stands}
 use Rattle.judge.specs.Promise.{JudgesPlan, JudgesClaim}
 use Rattle.judge.specs.Stated.{RunsIn, planTurn, PlanGivenFirst}
-use Rattle.judge.specs.declared.PlanFault.{PlanFault}
-use Rattle.judge.specs.declared.PlanFault.the-variants.{WrongLength, NoJob, OutsideWindow, HasAllSlots, LacksCharge, LacksSlots}
 use Rattle.judge.specs.declared.JudgedPlan.{JudgedPlan}
 use Rattle.judge.specs.declared.JudgedPlan.the-variants as Plan
 use Rattle.judge.specs.declared.JudgedClaim.{JudgedClaim}
 use Rattle.judge.specs.declared.JudgedClaim.the-variants as Claim
 use Rattle.judge.specs.declared.Sums.{Sums}
-use Rattle.judge.proofs.Judging.{byte-stands}
 use Rattle.judge.proofs.ClaimWords.{is-interval}
 use Rattle.judge.proofs.Theorems.{plan-faulty-exactly, claim-accepted-exactly, claim-eighteen-exactly}
 use Rattle.judge_words.specs.Words.{GoodJobs, IsJobs, Stands}

@@ -4,8 +4,8 @@ use mathlib.Core.List.{List}
 use lib.ListN.{length, getD}
 use Rattle.sheet.specs.Table.{mostJobs, jobOf}
 use Rattle.sheet.specs.declared.Table.{Table}
-use Rattle.judge.specs.declared.PlanFault.{PlanFault}
-use Rattle.judge.specs.declared.PlanFault.the-variants.{WrongLength, NoJob, OutsideWindow, HasAllSlots, LacksCharge, LacksSlots}
+use Rattle.plan_slots.specs.declared.PlanFault.{PlanFault}
+use Rattle.plan_slots.specs.declared.PlanFault.the-variants.{WrongLength, NoJob, OutsideWindow, HasAllSlots, LacksCharge, LacksSlots}
 
 -- the jobs of a table that was read
 pub record GoodJobs (t : Table) : Type 0 where

@@ -22,8 +22,9 @@ use Rattle.rules.specs.Rules.{ruleFor, decided, nextState}
 use Rattle.slot_run.specs.Run.{firstState, stateAt, planOf}
 use Rattle.planner.specs.Plan.{Verdict, met, undecided, verdictOf, planFor, planLeft}
 use Rattle.planner.specs.Plan as Plan
-use Rattle.judge.specs.Evidence.{slotsGot, spentIn, levelAt}
-use Rattle.judge.specs.Judge.{namesNothing, jobSays, slotSays, slotsSay, planSays, judgedPlan, claimFault, claimSays, judgedClaim, sumsOf, judgedSums}
+use Rattle.plan_slots.specs.Plan.{slotsGot, spentIn, levelAt}
+use Rattle.plan_slots.specs.Slots.{namesNothing, jobSays, slotSays, slotsSay}
+use Rattle.judge.specs.Judge.{planSays, judgedPlan, claimFault, claimSays, judgedClaim, sumsOf, judgedSums}
 
 -- ---- what goes in
 

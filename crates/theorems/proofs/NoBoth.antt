@@ -18,7 +18,8 @@ use Rattle.sheet.proofs.Words.{and-left, and-right}
 use Rattle.demand.specs.Demand.{within, demandOf, supplyOf}
 use Rattle.demand.specs.declared.Kind.{Kind}
 use Rattle.demand.specs.declared.Kind.the-variants.{Time, Energy}
-use Rattle.judge.specs.Evidence.{byteOf, namesJob, slotsGot, spentIn, levelAt, AcceptablePlan, AcceptableClaim}
+use Rattle.plan_slots.specs.Plan.{byteOf, namesJob, slotsGot, spentIn, levelAt}
+use Rattle.judge.specs.Evidence.{AcceptablePlan, AcceptableClaim}
 use Rattle.theorems.proofs.Counting.{total-swap, total-weighed, total-stretch, weight-none, weight-one}
 
 -- the level is at most capacity

@@ -23,7 +23,8 @@ use Rattle.choice.specs.declared.State.{State}
 use Rattle.choice.proofs.Choosing.{chosen-is}
 use Rattle.rules.proofs.RuleLaws.{busy-is-chosen, busy-facts}
 use Rattle.slot_run.proofs.Running.{state-slot, byteAt}
-use Rattle.judge.specs.Evidence.{byteOf, slotsGot, spentIn, levelAt, AcceptablePlan}
+use Rattle.plan_slots.specs.Plan.{byteOf, slotsGot, spentIn, levelAt}
+use Rattle.judge.specs.Evidence.{AcceptablePlan}
 
 -- ---- one slot, from any state
 

@@ -13,17 +13,12 @@ use Rattle.sheet.specs.Paper.{Check, gives, _when_, _else_, inOrder}
 use Rattle.sheet.specs.Sums.{harvestAt}
 use Rattle.sheet.specs.Table.{mostJobs, idleByte, startLevel, jobOf, Day}
 use Rattle.sheet.proofs.Sums.{total-none, total-more}
-use Rattle.judge.specs.Evidence.{byteOf, namesJob, slotsGot, spentIn, levelAt}
-use Rattle.sheet.specs.declared.Job.{Job}
 use Rattle.sheet.proofs.Order.{Refuses, else-stays, else-goes-on, in-order-first, in-order-same}
-use Rattle.judge.specs.Judge.{namesNothing, outsideWindow, hasAllSlots, lacksCharge, jobSays, slotSays, endSays, slotsSay}
-use Rattle.judge.specs.Numbers.{faultSays}
-use Rattle.judge.specs.Steps.{findingSays, endsBy}
-use Rattle.judge.specs.declared.PlanFault.{PlanFault}
-use Rattle.judge.specs.declared.PlanFault.the-variants.{NoJob, OutsideWindow, HasAllSlots, LacksCharge, LacksSlots}
-use Rattle.judge.specs.declared.Finding.{Finding}
-use Rattle.judge.specs.declared.Finding.the-variants.{Nothing, Fault}
-use Rattle.judge.proofs.PlanOrder.{fault-refuses}
+use Rattle.plan_slots.specs.Plan.{byteOf, namesJob, slotsGot, spentIn, levelAt}
+use Rattle.plan_slots.specs.Slots.{namesNothing, jobSays, slotSays, endSays, slotsSay}
+use Rattle.plan_slots.specs.Numbers.{faultSays}
+use Rattle.plan_slots.specs.Steps.{endsBy}
+use Rattle.plan_slots.specs.declared.PlanFault.the-variants.{NoJob, LacksSlots}
 
 -- ---- the slots that a job got
 
@@ -42,6 +37,14 @@ pub got-not-here : (plan : List ℕ) (k i : ℕ) → (byteOf plan i ≡ k → �
 got-not-here plan k i e =
     let more = got-more plan k i ∙ ap (λ (b : Bool). slotsGot plan k i + cond b 1 0) (ne-eqb (byteOf plan i) k e) in
     omega arith
+
+pub got-grows : (plan : List ℕ) (k i n : ℕ) → slotsGot plan k i ≤ slotsGot plan k (i + n)
+got-grows plan k i zero = let here : i + 0 ≡ i = omega arith in rw here (omega arith)
+got-grows plan k i (suc n) =
+    let here : i + suc n ≡ i + n + 1 = omega arith in
+    let more = got-more plan k (i + n) in
+    let before = got-grows plan k i n in
+    rw here (omega arith)
 
 -- ---- the level
 
@@ -121,26 +124,6 @@ ends-decide d plan got clear kept =
     in-order-same _ (endSays d plan) (d .table .count)
     (λ k h. ap (λ (n : ℕ). faultSays (LacksSlots k) when ltb n (jobOf (d .table) k .wanted)) (kept k h))
     ∙ sym (else-goes-on (inOrder (slotSays d plan) (d .table .slots)) _ clear)
-
--- a busy slot that is not refused: the job may run, lacks a slot, and can be paid
-pub job-clear : (j : Job) (i got charge : ℕ) → jobSays j i got charge ≡ gives tt
-    → (outsideWindow j i ≡ false) × (hasAllSlots j got ≡ false) × (lacksCharge j charge ≡ false)
-unfolding jobSays
-job-clear j i got charge e = go (outsideWindow j i) (hasAllSlots j got) (lacksCharge j charge) e
-  where
-    go : (a b d : Bool) → (faultSays (OutsideWindow i) when a else faultSays (HasAllSlots i) when b else faultSays (LacksCharge i) when d) ≡ gives tt
-        → (a ≡ false) × (b ≡ false) × (d ≡ false)
-    go true b d e = absurd (subst (λ (c : Check). Refuses c) e tt)
-    go false true d e = absurd (subst (λ (c : Check). Refuses c) e tt)
-    go false false true e = absurd (subst (λ (c : Check). Refuses c) e tt)
-    go false false false e = (refl, refl, refl)
-
--- what is found is a refusal, and what is said where nothing is found
-pub found-refuses : (x : Finding) (f : PlanFault) (r : Check) → x ≡ Fault f → findingSays x ≡ r → Refuses r
-found-refuses x f r e says = subst Refuses (ap findingSays (sym e) ∙ says) (fault-refuses f)
-
-pub nothing-gives : (x : Finding) (r : Check) → x ≡ Nothing → findingSays x ≡ r → r ≡ gives tt
-nothing-gives x r e says = sym says ∙ ap findingSays e
 
 -- ---- a byte that stands in the plan
 

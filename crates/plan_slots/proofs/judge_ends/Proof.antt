@@ -11,12 +11,12 @@ use Rattle.sheet.specs.Paper.{Check, gives, _when_, inOrder}
 use Rattle.sheet.specs.Table.{jobOf}
 use Rattle.sheet.proofs.Order.{in-order-none, in-order-clear, in-order-first, Refuses}
 use Rattle.sheet.specs.declared.Table.{Table}
-use Rattle.judge.specs.Numbers.{faultSays}
-use Rattle.judge.specs.declared.PlanFault.the-variants.{LacksSlots}
-use Rattle.judge.specs.Steps.{endsBy}
+use Rattle.plan_slots.specs.Numbers.{faultSays}
+use Rattle.plan_slots.specs.declared.PlanFault.the-variants.{LacksSlots}
+use Rattle.plan_slots.specs.Steps.{endsBy}
 use borrow.Author.Needs.{needs}
-use Rattle.judge.proofs.judge_ends.Statement.{statement}
-use Rattle.judge.proofs.judge_ends.Tie as tie
+use Rattle.plan_slots.proofs.judge_ends.Statement.{statement}
+use Rattle.plan_slots.proofs.judge_ends.Tie as tie
 
 abbrev endBy : Table → List ℕ → ℕ → Check
 endBy t got k = faultSays (LacksSlots k) when ltb (getD got k 0) (jobOf t k .wanted)

@@ -1,8 +1,8 @@
 -- Each return follows the test that led to it.
 use Rattle.sheet.proofs.Tests.{tests}
 use borrow.Author.Needs.{needs}
-use Rattle.judge.proofs.may_run.Statement.{statement}
-use Rattle.judge.proofs.may_run.Tie as tie
+use Rattle.plan_slots.proofs.may_run.Statement.{statement}
+use Rattle.plan_slots.proofs.may_run.Tie as tie
 
 returns : tie.Need-returns
 returns c = search tests

@@ -1,0 +1,4 @@
+pub mod Numbers
+pub mod Plan
+pub mod Slots
+pub mod Steps
