@@ -12,7 +12,6 @@ use sheet::Refusal;
 use sheet::Table;
 ghost use mathlib.Core.Path.{_≡_};
 ghost use lib.ListN.{length};
-ghost use mathlib.Core.Bool.{cond};
 ghost use mathlib.Core.List.{List};
 ghost use Prim.Native.Nat.{ℕ, _<_, _≤_};
 ghost use Rattle.sheet.specs.HandedIn.{onSheet, onTable};
@@ -20,7 +19,7 @@ ghost use Rattle.sheet.specs.Paper.{numberOf};
 ghost use Rattle.sheet.specs.Sums.{harvestOf, mostHarvest, mostCost};
 ghost use Rattle.sheet.specs.Table.{mostJobs, mostSlots, dayOf};
 ghost use Rattle.sheet.specs.WellFormed.{GoodDay};
-ghost use Rattle.demand.specs.Demand.{within, shareOf, demandOf};
+ghost use Rattle.demand.specs.Demand.{shareOf, demandOf};
 ghost use Rattle.judge.specs.Judge.{claimFault, kindOf, sumsOf};
 ghost use Rattle.judge.specs.Promise.{claimAnswered, JudgesPlan, JudgesClaim};
 
@@ -140,14 +139,10 @@ fn kind_of(kind: u64) -> Kind
     }
 }
 
-// What a job adds to the demand of an interval: its slots wanted, or what they cost, where it is one of
-// the interval's jobs, and otherwise nothing.
-fn share(kind: Kind, from: u16, to: u16, j: Job) -> u32
-    ensures { λ r. ⌜ (r ≡ cond (within from to j) (shareOf kind j) 0) × (r ≤ mostCost) ⌝ }
+// What a job of an interval adds to its demand: its slots wanted, or what they cost.
+fn share(kind: Kind, j: Job) -> u32
+    ensures { λ r. ⌜ (r ≡ shareOf kind j) × (r ≤ mostCost) ⌝ }
 {
-    if !demand::is_within(from, to, j.release, j.deadline) {
-        return 0;
-    }
     match kind {
         Kind::Time => sheet::wide(j.wanted),
         Kind::Energy => sheet::cost(j.wanted, j.energy),
@@ -163,7 +158,9 @@ fn demand_of(t: Table, kind: Kind, from: u16, to: u16) -> u32
     let mut demand: u32 = 0;
     let mut k = 0;
     while k < count {
-        demand += share(kind, from, to, t.jobs[k]);
+        if demand::is_within(from, to, t.jobs[k].release, t.jobs[k].deadline) {
+            demand += share(kind, t.jobs[k]);
+        }
         k += 1;
     }
     demand

@@ -13,7 +13,7 @@ use Rattle.sheet.proofs.Order.{in-order-none, in-order-clear}
 use Rattle.sheet.proofs.Lists.{zeros-first}
 use Rattle.plan_slots.specs.Plan.{byteOf, slotsGot, levelAt}
 use Rattle.plan_slots.specs.Slots.{jobSays, slotSays, slotsSay}
-use Rattle.plan_slots.specs.Steps.{JoblessLeaves, JobLeaves, endsBy}
+use Rattle.plan_slots.specs.Steps.{JobLeaves, endsBy}
 use Rattle.plan_slots.specs.Numbers.{faultSays}
 use Rattle.plan_slots.specs.declared.PlanFault.{PlanFault}
 use Rattle.plan_slots.specs.declared.PlanFault.the-variants.{NoJob}
@@ -59,7 +59,7 @@ module _ (d : Day) (plan got : List ℕ) (level i byte charge : ℕ) (few : d .t
   its-charge : charge ≡ levelAt d plan i + harvestAt (d .harvest) i
   its-charge = read .charge-is ∙ ap (λ (n : ℕ). n + harvestAt (d .harvest) i) (kept .level-is)
 
-  kept-idle : (level′ : ℕ) → byte ≡ idleByte → level′ ≡ min (d .table .capacity) charge → Kept d plan got level′ (i + 1)
+  pub kept-idle : (level′ : ℕ) → byte ≡ idleByte → level′ ≡ min (d .table .capacity) charge → Kept d plan got level′ (i + 1)
   kept-idle level′ idle e =
       let named = sym its-byte ∙ idle in
       record {
@@ -69,20 +69,12 @@ module _ (d : Day) (plan got : List ℕ) (level i byte charge : ℕ) (few : d .t
         clear = in-order-clear (slotSays d plan) i (kept .clear) (idle-says d plan i few named);
       }
 
-  refused-stranger : (byte ≡ idleByte → ⊥) → d .table .count ≤ byte → faultSays (NoJob i) ≡ slotsSay d plan
+  pub refused-stranger : (byte ≡ idleByte → ⊥) → d .table .count ≤ byte → faultSays (NoJob i) ≡ slotsSay d plan
   refused-stranger busy h =
       let e = its-byte in
       sym
       (first-refused d plan i (faultSays (NoJob i)) (read .in-day) (kept .clear)
       (stranger-says d plan i (λ q. busy (e ∙ q)) (subst (λ (n : ℕ). d .table .count ≤ n) e h)) tt)
-
-  left-jobless : d .table .count ≤ byte → (passed : Passed) → JoblessLeaves byte i (d .table .capacity) charge passed → Leaves d plan i got passed
-  left-jobless h (Level level′) (idle, e) = kept-idle level′ idle e
-  left-jobless h (Fault f) (busy, e) = ap faultSays e ∙ refused-stranger busy h
-
-  pub jobless-leaves : d .table .count ≤ byte → (found : Passed) → JoblessLeaves byte i (d .table .capacity) charge found
-      → (after : List ℕ) (passed : Passed) → after ≡ got → passed ≡ found → Leaves d plan i after passed
-  jobless-leaves h found left after passed same is = subst (λ (a : List ℕ). Leaves d plan i a passed) (sym same) (subst (Leaves d plan i got) (sym is) (left-jobless h found left))
 
   -- ---- a slot that names a job
 
@@ -115,13 +107,14 @@ module _ (d : Day) (plan got : List ℕ) (level i byte charge : ℕ) (few : d .t
           clear = in-order-clear (slotSays d plan) i (kept .clear) (sym slot-says ∙ nothing);
         }
 
-    left-by-job : (after : List ℕ) (passed : Passed) → JobLeaves (jobOf (d .table) byte) byte i (d .table .capacity) charge got after passed → Leaves d plan i after passed
-    left-by-job after (Level level′) (nothing, stored, e) = subst (λ (a : List ℕ). Kept d plan a level′ (i + 1)) (sym stored) (kept-busy nothing level′ e)
-    left-by-job after (Fault f) said = refused-job f said
-
-    pub job-leaves : (stored : List ℕ) (found : Passed) → JobLeaves (jobOf (d .table) byte) byte i (d .table .capacity) charge got stored found
-        → (after : List ℕ) (passed : Passed) → after ≡ stored → passed ≡ found → Leaves d plan i after passed
-    job-leaves stored found left after passed same is = subst (λ (a : List ℕ). Leaves d plan i a passed) (sym same) (subst (Leaves d plan i stored) (sym is) (left-by-job stored found left))
+    -- it leaves what is kept as the next begins, or the answer
+    pub job-leaves : (after : List ℕ) (found passed : Passed) → JobLeaves (jobOf (d .table) byte) byte i (d .table .capacity) charge got after found
+        → found ≡ passed → Leaves d plan i after passed
+    job-leaves after found passed left told = subst (Leaves d plan i after) told (go found left)
+      where
+        go : (p : Passed) → JobLeaves (jobOf (d .table) byte) byte i (d .table .capacity) charge got after p → Leaves d plan i after p
+        go (Level level′) (nothing, stored, e) = subst (λ (a : List ℕ). Kept d plan a level′ (i + 1)) (sym stored) (kept-busy nothing level′ e)
+        go (Fault f) said = refused-job f said
 
 -- after the last slot
 pub kept-decides : (d : Day) (plan got : List ℕ) (level i : ℕ) → Kept d plan got level i → i ≡ d .table .slots → endsBy (d .table) got ≡ slotsSay d plan

@@ -5,19 +5,14 @@ use mathlib.Core.List.{List}
 use lib.Dec.{ltb}
 use lib.ListN.{getD, set}
 use Rattle.sheet.specs.Paper.{Check, gives, _when_, inOrder}
-use Rattle.sheet.specs.Table.{idleByte, jobOf}
+use Rattle.sheet.specs.Table.{jobOf}
 use Rattle.sheet.specs.declared.Job.{Job}
 use Rattle.sheet.specs.declared.Table.{Table}
 use Rattle.plan_slots.specs.Numbers.{faultSays}
 use Rattle.plan_slots.specs.Slots.{jobSays}
-use Rattle.plan_slots.specs.declared.PlanFault.the-variants.{NoJob, LacksSlots}
+use Rattle.plan_slots.specs.declared.PlanFault.the-variants.{LacksSlots}
 use Rattle.plan_slots.specs.declared.Passed.{Passed}
 use Rattle.plan_slots.specs.declared.Passed.the-variants.{Level, Fault}
-
--- what slot i leaves that is no job's: the level where it is idle, and otherwise 12
-abbrev pub JoblessLeaves : (byte i capacity charge : ℕ) → Passed → Type 0
-JoblessLeaves byte i capacity charge (Level level) = (byte ≡ idleByte) × (level ≡ min capacity charge)
-JoblessLeaves byte i capacity charge (Fault f) = (byte ≡ idleByte → ⊥) × (f ≡ NoJob i)
 
 -- what a slot of job k leaves: a slot more for the job and the level where 13, 14 and 15 do not refuse it
 abbrev pub JobLeaves : Job → (k i capacity charge : ℕ) → (got after : List ℕ) → Passed → Type 0

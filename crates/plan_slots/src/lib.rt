@@ -12,7 +12,7 @@ ghost use Rattle.sheet.specs.Table.{mostJobs, dayOf};
 ghost use Rattle.sheet.specs.WellFormed.{GoodDay};
 ghost use Rattle.plan_slots.specs.Numbers.{faultSays, findingSays};
 ghost use Rattle.plan_slots.specs.Slots.{slotsSay};
-ghost use Rattle.plan_slots.specs.Steps.{JobLeaves, JoblessLeaves, endsBy};
+ghost use Rattle.plan_slots.specs.Steps.{JobLeaves, endsBy};
 
 // Why a plan is refused, with the slot, and for 16 the job, that document 01 names.
 pub enum PlanFault {
@@ -105,16 +105,6 @@ fn judge_job(
     Passed::Level(sheet::cut(capacity, charge - needed))
 }
 
-// A slot that is no job's: 12 where it is not idle.
-fn judge_jobless(byte: u8, slot: usize, capacity: u16, charge: u32) -> Passed
-    ensures { λ r. ⌜ JoblessLeaves byte slot capacity charge r ⌝ }
-{
-    if byte == sheet::IDLE {
-        return Passed::Level(sheet::cut(capacity, charge));
-    }
-    Passed::Fault(PlanFault::NoJob(slot))
-}
-
 // What is found of a part of a plan.
 pub enum Finding {
     Nothing,
@@ -151,13 +141,15 @@ pub fn judge_slots(t: Table, harvest: &[u8], plan: &[u8]) -> Finding
     for i in 0..plan.len() {
         let byte = plan[i];
         let charge = sheet::wide(level) + sheet::wide(sheet::counted(harvest[i]));
+        if byte == sheet::IDLE {
+            level = sheet::cut(capacity, charge);
+            continue;
+        }
         let k = byte as usize;
-        let passed = if k < count {
-            judge_job(t.jobs[k], k, i, capacity, charge, &mut got)
-        } else {
-            judge_jobless(byte, i, capacity, charge)
-        };
-        match passed {
+        if count <= k {
+            return Finding::Fault(PlanFault::NoJob(i));
+        }
+        match judge_job(t.jobs[k], k, i, capacity, charge, &mut got) {
             Passed::Level(next) => level = next,
             Passed::Fault(fault) => return Finding::Fault(fault),
         }

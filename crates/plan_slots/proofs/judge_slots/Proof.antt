@@ -1,11 +1,11 @@
 -- The loop keeps: the level and the slots that each job got are those of the plan as slot i begins, and no slot before i is refused.
 use Prim.Native.Nat.{_≤_, _+_, _-_}
-use mathlib.Core.Path.{_≡_, refl, ap₂, _∙_, subst}
-use mathlib.Core.Logic.{⊎-elim}
+use mathlib.Core.Path.{_≡_, refl, ap₂, _∙_}
 use native.Mathlib.Omega.{arith}
 use lib.ListN.{length, getD}
-use Rattle.sheet.specs.Table.{dayOf}
-use Rattle.plan_slots.proofs.Keeping.{Kept, kept-first, SlotRead, Leaves, jobless-leaves, job-leaves, kept-decides}
+use Rattle.sheet.specs.Table.{mostJobs, dayOf}
+use Rattle.plan_slots.specs.declared.Passed.the-variants.{Level, Fault}
+use Rattle.plan_slots.proofs.Keeping.{Kept, kept-first, SlotRead, kept-idle, refused-stranger, job-leaves, kept-decides}
 use borrow.Author.Needs.{needs}
 use Rattle.plan_slots.proofs.judge_slots.Statement.{statement}
 use Rattle.plan_slots.proofs.judge_slots.Tie as tie
@@ -41,39 +41,59 @@ slot-read c =
       charge-is = ap₂ _+_ (c .before .before .before .wide .ensures .0) (c .wide2 .ensures .0 ∙ c .before .counted .ensures .0);
     }
 
--- what the slot leaves
-leaves : (c : tie.Joined1 Inv-loop μ-loop)
-    → let args = began (in-loop (c .before)) .args in
-    Leaves (dayOf (args .t1) (args .harvest .now)) (args .plan .now) (in-loop (c .before) .before .loop .i) (c .if1 .got) (c .if1 .passed)
-leaves c =
-    let at = in-loop (c .before) in
-    let kept = at .before .loop .inv .4 in
-    let few = began at .pre .0 .few-jobs in
-    ⊎-elim
-    (λ w. job-leaves _ _ _ _ _ _ _ few kept (slot-read (c .before)) (w .0 .taken) _ (w .3 .result) (w .3 .ensures) _ _ (w .4) (w .5))
-    (λ w. jobless-leaves _ _ _ _ _ _ _ few kept (slot-read (c .before)) (w .0 .left) (w .1 .result) (w .1 .ensures) _ _ (w .2) (w .3))
-    (c .if1 .came)
+-- what the loop keeps as a slot is read
+abbrev kept : (c : tie.After-wide2 Inv-loop μ-loop)
+    → let at = in-loop c .before .loop in
+    let args = began (in-loop c) .args in
+    Kept (dayOf (args .t1) (args .harvest .now)) (args .plan .now) (at .got) (at .level) (at .i)
+kept c = in-loop c .before .loop .inv .4
 
-cast-k : tie.Need-cast-k Inv-loop μ-loop
-cast-k c =
-    let at = c .before .before .before .before in
-    let byte = at .shared-slice-known3 .given (at .before .before .loop .i) .fits in
-    record { fits = omega arith }
-
-judge-job-requires : tie.Need-judge-job-requires Inv-loop μ-loop
-judge-job-requires c κs = let few = began (in-loop (c .before .before .before)) .pre .0 .few-jobs in let named = c .before .before .if1 .taken in omega arith
-
-returns : tie.Need-returns Inv-loop μ-loop
-returns c = subst (Leaves _ _ _ _) (c .before .passed2 .given .1) (leaves (c .before .before .before))
+-- there are at most 64 jobs
+abbrev few : (c : tie.After-wide2 Inv-loop μ-loop) → began (in-loop c) .args .t1 .count ≤ mostJobs
+few c = began (in-loop c) .pre .0 .few-jobs
 
 loop-again : tie.Need-loop-again Inv-loop μ-loop
 loop-again c =
-    let joined = c .before .before .before in
-    let below = in-loop (joined .before) .loop-test .taken in
-    (refl, refl, refl, omega arith, subst (Leaves _ _ _ _) (c .before .passed .given .1) (leaves joined))
+    let read = c .before .before in
+    let below = in-loop read .loop-test .taken in
+    (refl, refl, refl, omega arith, kept-idle _ _ _ _ _ _ _ (few read) (kept read) (slot-read read) _ (c .before .if1 .taken) (c .cut .ensures))
+
+cast-k : tie.Need-cast-k Inv-loop μ-loop
+cast-k c =
+    let at = c .before .before .before .before .before in
+    let byte = at .shared-slice-known3 .given (at .before .before .loop .i) .fits in
+    record { fits = omega arith }
+
+returns : tie.Need-returns Inv-loop μ-loop
+returns c = let read = c .before .before in refused-stranger _ _ _ _ _ _ _ (few read) (kept read) (slot-read read) (c .before .if1 .left) (c .if2 .taken)
+
+judge-job-requires : tie.Need-judge-job-requires Inv-loop μ-loop
+judge-job-requires c κs = let most = few (c .before .before .before .before) in let named = c .before .before .if2 .left in omega arith
+
+-- where a slot that names a job was read, seen from where that job was judged
+abbrev read-of : tie.After-judge-job Inv-loop μ-loop → tie.After-wide2 Inv-loop μ-loop
+read-of c = c .before .before .before .before .before
 
 returns-2 : tie.Need-returns-2 Inv-loop μ-loop
 returns-2 c =
+    let job = c .before .before .before in
+    let read = read-of job in
+    job-leaves _ _ _ _ _ _ _ (few read) (kept read) (slot-read read) (job .before .before .before .if2 .left) _ (job .judge-job .result) (Fault (c .before .fault .given .0 .0)) (job .judge-job .ensures) (c .before .fault .given .1)
+
+loop-again-2 : tie.Need-loop-again-2 Inv-loop μ-loop
+loop-again-2 c =
+    let job = c .before .before .before in
+    let read = read-of job in
+    let below = in-loop read .loop-test .taken in (
+      refl,
+      refl,
+      refl,
+      omega arith,
+      job-leaves _ _ _ _ _ _ _ (few read) (kept read) (slot-read read) (job .before .before .before .if2 .left) _ (job .judge-job .result) (Level (c .before .next .given .0 .0)) (job .judge-job .ensures) (c .before .next .given .1),
+    )
+
+returns-3 : tie.Need-returns-3 Inv-loop μ-loop
+returns-3 c =
     let at-end = c .before .before in
     let fits = at-end .before .before .before .before .pre .1 in
     let at-slots : at-end .before .loop .i ≡ at-end .before .before .before .before .args .t1 .slots = omega arith in
@@ -83,5 +103,6 @@ pub judge-slots-spec : {M : Type 1} → statement M
 judge-slots-spec =
     tie.close
     (tie.spec Inv-loop μ-loop loop-holds (λ c. search needs) (λ c κs. search needs) (λ c. search needs) (λ c κs. search needs) (λ c κs. search needs)
-    (λ c. search needs) cast-k (λ c. search needs) (λ c. search needs) judge-job-requires (λ c κs. search needs) (λ c. search needs)
-    (λ c. search needs) returns (λ c. search needs) (λ c. search needs) loop-again (λ c κs. search needs) returns-2)
+    (λ c. search needs) (λ c κs. search needs) (λ c. search needs) (λ c. search needs) loop-again cast-k returns (λ c. search needs)
+    (λ c. search needs) judge-job-requires (λ c. search needs) (λ c. search needs) returns-2 (λ c. search needs) (λ c. search needs)
+    loop-again-2 (λ c κs. search needs) returns-3)
