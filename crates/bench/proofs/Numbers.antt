@@ -13,8 +13,8 @@ use Rattle.sheet.proofs.Refusals.{refusal-refuses}
 use Rattle.writer.specs.Promise.{writtenSays}
 use Rattle.writer.specs.declared.Written.{Written}
 use Rattle.writer.specs.declared.Written.the-variants as Written
-use Rattle.demand.specs.Demand.{kindNumber}
-use Rattle.demand.specs.declared.Kind.{Kind}
+use Rattle.interval.specs.Demand.{kindNumber}
+use Rattle.interval.specs.declared.Kind.{Kind}
 use Rattle.demand.specs.Search.{overloadSays, foundSays, firstOverload, searchedSays}
 use Rattle.demand.specs.declared.Found.{Found}
 use Rattle.demand.specs.declared.Found.the-variants as Found

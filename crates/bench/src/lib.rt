@@ -11,7 +11,7 @@ use writer::Written;
 ghost use mathlib.Core.Path.{_≡_};
 ghost use Prim.Native.Nat.{ℕ, _+_, _*_, _%_, _<_, _≤_};
 ghost use Rattle.sheet.specs.Table.{mostJobs};
-ghost use Rattle.demand.specs.Demand.{kindNumber};
+ghost use Rattle.interval.specs.Demand.{kindNumber};
 ghost use Rattle.demand.specs.Search.{searchedSays, overloadSays};
 ghost use Rattle.judge.specs.Promise.{planAnswered, claimAnswered, sumsTold};
 ghost use Rattle.planner.specs.Promise.{plannedSays};

@@ -12,10 +12,10 @@ use Rattle.sheet.proofs.Exactly.{either, never-both}
 use Rattle.sheet.proofs.Sums.{some-here, some-where}
 use Rattle.sheet.specs.Sums.{some}
 use Rattle.sheet.specs.Table.{jobOf, Day}
-use Rattle.demand.specs.Demand.{Overloaded, overloaded}
+use Rattle.interval.specs.Demand.{Overloaded, overloaded}
 use Rattle.demand.specs.Search.{intervalOf, isRelease, isDeadline, foundAt, _or-else_, latestStart, smallestEnd}
-use Rattle.demand.specs.declared.Kind.{Kind}
-use Rattle.demand.specs.declared.Kind.the-variants.{Time, Energy}
+use Rattle.interval.specs.declared.Kind.{Kind}
+use Rattle.interval.specs.declared.Kind.the-variants.{Time, Energy}
 use Rattle.demand.specs.declared.Found.{Found}
 use Rattle.demand.specs.declared.Found.the-variants as Found
 use Rattle.demand.specs.declared.Overload.{Overload}

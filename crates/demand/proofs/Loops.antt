@@ -17,11 +17,11 @@ use Rattle.sheet.proofs.Sums.{total-more}
 use Rattle.sheet.specs.Sums.{totalOf, mostCost}
 use Rattle.sheet.specs.Table.{jobOf, Day}
 use Rattle.sheet.specs.declared.Table.{Table}
-use Rattle.demand.specs.Demand.{within, shareOf}
+use Rattle.interval.specs.Demand.{within, shareOf}
 use Rattle.demand.specs.Search.{isDeadline, foundAt, latestStart, smallestEnd}
 use Rattle.demand.specs.Steps.{dueAt, mostDue, DueBy, NextDeadline}
-use Rattle.demand.specs.declared.Kind.{Kind}
-use Rattle.demand.specs.declared.Kind.the-variants.{Time, Energy}
+use Rattle.interval.specs.declared.Kind.{Kind}
+use Rattle.interval.specs.declared.Kind.the-variants.{Time, Energy}
 use Rattle.demand.specs.declared.Found.{Found}
 use Rattle.demand.specs.declared.Found.the-variants as Found
 use Rattle.demand.specs.declared.Overload.{Overload}

@@ -11,10 +11,10 @@ use Rattle.sheet.proofs.Exactly.{either, never-both}
 use Rattle.sheet.proofs.Sums.{total-same, total-bound, harvest-grows}
 use Rattle.sheet.specs.Table.{jobOf, Day}
 use Rattle.sheet.specs.WellFormed.{GoodDay}
-use Rattle.demand.specs.Demand.{within, shareOf, demandOf, supplyOf, Overloaded}
+use Rattle.interval.specs.Demand.{within, shareOf, demandOf, supplyOf, Overloaded}
 use Rattle.demand.specs.Search.{isRelease, isDeadline}
-use Rattle.demand.specs.declared.Kind.{Kind}
-use Rattle.demand.specs.declared.Kind.the-variants.{Time, Energy}
+use Rattle.interval.specs.declared.Kind.{Kind}
+use Rattle.interval.specs.declared.Kind.the-variants.{Time, Energy}
 use Rattle.demand.proofs.Findings.{release-exactly, deadline-exactly}
 
 -- ---- tests that ask the same, where n is not m

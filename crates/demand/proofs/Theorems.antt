@@ -13,10 +13,10 @@ use Rattle.sheet.specs.WellFormed.{GoodDay, GivenFirst}
 use Rattle.sheet.specs.declared.Refusal.{Refusal}
 use Rattle.sheet.proofs.HandedIn.{sound-day, handed-on-exactly, own-exactly}
 use Rattle.sheet.proofs.Refusals.{byRefusal, by-refusal, said-one, said-exactly, own-given}
-use Rattle.demand.specs.Demand.{kindNumber, demandOf, supplyOf, Overloaded}
+use Rattle.interval.specs.Demand.{kindNumber, demandOf, supplyOf, Overloaded}
 use Rattle.demand.specs.Search.{Interval, overloadSays, Answer, overloaded-is, none-is, foundSays, searchedSays, intervalOf, isRelease, isDeadline, firstOverload, smallestEnd, searchOf, Searches}
-use Rattle.demand.specs.declared.Kind.{Kind}
-use Rattle.demand.specs.declared.Kind.the-variants.{Time, Energy}
+use Rattle.interval.specs.declared.Kind.{Kind}
+use Rattle.interval.specs.declared.Kind.the-variants.{Time, Energy}
 use Rattle.demand.specs.declared.Found.{Found}
 use Rattle.demand.specs.declared.Found.the-variants as Found
 use Rattle.demand.specs.declared.Overload.{Overload}

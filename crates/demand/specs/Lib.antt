@@ -1,3 +1,2 @@
-pub mod Demand
 pub mod Search
 pub mod Steps

@@ -9,9 +9,9 @@ use Rattle.sheet.specs.Paper.{Paper, gives, _else_}
 use Rattle.sheet.specs.Refusals.{refusalSays}
 use Rattle.sheet.specs.Sums.{some}
 use Rattle.sheet.specs.Table.{jobOf, Day}
-use Rattle.demand.specs.Demand.{kindNumber, demandOf, supplyOf, overloaded}
-use Rattle.demand.specs.declared.Kind.{Kind}
-use Rattle.demand.specs.declared.Kind.the-variants.{Time, Energy}
+use Rattle.interval.specs.Demand.{kindNumber, demandOf, supplyOf, overloaded}
+use Rattle.interval.specs.declared.Kind.{Kind}
+use Rattle.interval.specs.declared.Kind.the-variants.{Time, Energy}
 use Rattle.demand.specs.declared.Overload.{Overload}
 use Rattle.demand.specs.declared.Found.{Found}
 use Rattle.demand.specs.declared.Found.the-variants as Found

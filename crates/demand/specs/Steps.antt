@@ -10,10 +10,10 @@ use Rattle.sheet.specs.Table.{jobOf, Day, dayOf}
 use Rattle.sheet.specs.declared.Table.{Table}
 use Rattle.columns.specs.Columns.{ColumnsOf}
 use Rattle.totals.specs.Totals.{Summed}
-use Rattle.demand.specs.Demand.{shareOf, demandOf}
+use Rattle.interval.specs.Demand.{shareOf, demandOf}
 use Rattle.demand.specs.declared.Demands.{Demands}
-use Rattle.demand.specs.declared.Kind.{Kind}
-use Rattle.demand.specs.declared.Kind.the-variants.{Time, Energy}
+use Rattle.interval.specs.declared.Kind.{Kind}
+use Rattle.interval.specs.declared.Kind.the-variants.{Time, Energy}
 
 -- a well-formed day with the running totals of its harvest and the columns of its jobs
 pub record Lent (d : Day) (columns totals : List ℕ) : Type 0 where

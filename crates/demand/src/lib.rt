@@ -1,4 +1,5 @@
-// Demand and overload, and the search for the overloaded interval that comes first.
+// The search for the overloaded interval that comes first.
+pub use interval::Kind;
 use sheet::Outcome;
 use sheet::Refusal;
 use sheet::Table;
@@ -15,12 +16,6 @@ ghost use Rattle.columns.specs.Columns.{ColumnsOf};
 ghost use Rattle.totals.specs.Totals.{Summed};
 ghost use Rattle.demand.specs.Search.{foundAt, latestStart, firstOverload, Searches};
 ghost use Rattle.demand.specs.Steps.{Lent, DueBy, DemandsOf, NextDeadline};
-
-// The two kinds of demand: slots of time, and charge.
-pub enum Kind {
-    Time,
-    Energy,
-}
 
 // An overloaded interval, the slots from `from` up to, not including, `to`: what its jobs demand in
 // that kind is above what it can supply.
@@ -53,14 +48,6 @@ type Columns = [u16; columns::LENGTH];
 
 // The running totals of a harvest, as `totals::running` answers them.
 type Totals = [u32; totals::ENTRIES];
-
-// A job with this release and deadline is one of the interval's: released at or after its start, and
-// its deadline at or before its end.
-pub fn is_within(from: u16, to: u16, release: u16, deadline: u16) -> bool
-    ensures { λ r. ⌜ r ≡ (leb from release && leb deadline to) ⌝ }
-{
-    from <= release && deadline <= to
-}
 
 // The amount where it counts, otherwise 0.
 fn counted_if(counts: bool, amount: u32) -> u32

@@ -12,9 +12,9 @@ use Rattle.sheet.specs.Table.{Day}
 use Rattle.sheet.proofs.Exactly.{either, never-both}
 use Rattle.sheet.proofs.Order.{Refuses}
 use Rattle.sheet.proofs.Words.{or-left, or-false}
-use Rattle.demand.specs.Demand.{kindNumber, overloaded}
-use Rattle.demand.specs.declared.Kind.{Kind}
-use Rattle.demand.specs.declared.Kind.the-variants.{Time, Energy}
+use Rattle.interval.specs.Demand.{kindNumber, overloaded}
+use Rattle.interval.specs.declared.Kind.{Kind}
+use Rattle.interval.specs.declared.Kind.the-variants.{Time, Energy}
 use Rattle.judge.specs.Evidence.{AcceptableClaim}
 use Rattle.judge.specs.Judge.{kindOf, claimFault, claimSays}
 use Rattle.judge.specs.Numbers.{noInterval, notOverloaded}

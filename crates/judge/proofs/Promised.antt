@@ -28,9 +28,9 @@ use Rattle.plan_slots.specs.declared.Finding.the-variants.{Nothing, Fault}
 use Rattle.reader.specs.Promise.{Reads, harvestBehind}
 use Rattle.reader.specs.declared.Reading.{Reading}
 use Rattle.reader.proofs.Harvesting.{read-refuses, read-leaves, read-day}
-use Rattle.demand.specs.Demand.{kindNumber, demandOf, supplyOf, overloaded}
-use Rattle.demand.specs.declared.Kind.{Kind}
-use Rattle.demand.specs.declared.Kind.the-variants.{Time, Energy}
+use Rattle.interval.specs.Demand.{kindNumber, demandOf, supplyOf, overloaded}
+use Rattle.interval.specs.declared.Kind.{Kind}
+use Rattle.interval.specs.declared.Kind.the-variants.{Time, Energy}
 use Rattle.judge.specs.Judge.{planSays, judgedPlan, kindOf, claimFault, claimSays, judgedClaim, noSums, sumsOf, judgedSums}
 use Rattle.judge.specs.Numbers.{noInterval}
 use Rattle.judge.specs.Promise.{planAnswered, JudgesPlan, JudgesClaim}

@@ -20,7 +20,7 @@ use Rattle.plan_slots.specs.Numbers.{faultSays}
 use Rattle.plan_slots.specs.declared.PlanFault.{PlanFault}
 use Rattle.plan_slots.specs.declared.PlanFault.the-variants.{WrongLength, NoJob, OutsideWindow, HasAllSlots, LacksCharge, LacksSlots}
 use Rattle.plan_slots.proofs.SlotOrder.{faultMeant}
-use Rattle.demand.specs.Demand.{overloaded}
+use Rattle.interval.specs.Demand.{overloaded}
 use Rattle.judge.specs.Evidence.{AcceptablePlan, AcceptableClaim}
 use Rattle.judge.specs.Judge.{planSays, judgedPlan, kindOf, claimFault, claimSays, judgedClaim, sumsOf, judgedSums}
 use Rattle.judge.specs.Promise.{planAnswered, JudgesPlan, claimAnswered, sumsTold, JudgesClaim}

@@ -6,8 +6,8 @@ use mathlib.Core.List.{List}
 use Rattle.sheet.specs.Sums.{total}
 use Rattle.sheet.specs.Table.{jobOf, dayOf}
 use Rattle.sheet.specs.declared.Table.{Table}
-use Rattle.demand.specs.Demand.{within, shareOf, demandOf}
-use Rattle.demand.specs.declared.Kind.{Kind}
+use Rattle.interval.specs.Demand.{within, shareOf, demandOf}
+use Rattle.interval.specs.declared.Kind.{Kind}
 
 -- what job k adds to the demand of an interval
 abbrev pub partOf : Kind → Table → ℕ → ℕ → ℕ → ℕ

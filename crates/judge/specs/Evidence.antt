@@ -7,8 +7,8 @@ use lib.ListN.{length}
 use Rattle.sheet.specs.Sums.{harvestAt}
 use Rattle.sheet.specs.Table.{idleByte, jobOf, Day}
 use Rattle.plan_slots.specs.Plan.{byteOf, slotsGot, levelAt}
-use Rattle.demand.specs.Demand.{kindNumber, Overloaded}
-use Rattle.demand.specs.declared.Kind.{Kind}
+use Rattle.interval.specs.Demand.{kindNumber, Overloaded}
+use Rattle.interval.specs.declared.Kind.{Kind}
 
 -- ---- a plan: one byte a slot, the job's number or 255 for idle
 

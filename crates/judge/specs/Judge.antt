@@ -10,9 +10,9 @@ use Rattle.sheet.specs.Table.{Day}
 use Rattle.plan_slots.specs.Numbers.{faultSays}
 use Rattle.plan_slots.specs.Slots.{slotsSay}
 use Rattle.plan_slots.specs.declared.PlanFault.the-variants.{WrongLength}
-use Rattle.demand.specs.Demand.{kindNumber, demandOf, supplyOf, overloaded}
-use Rattle.demand.specs.declared.Kind.{Kind}
-use Rattle.demand.specs.declared.Kind.the-variants.{Time, Energy}
+use Rattle.interval.specs.Demand.{kindNumber, demandOf, supplyOf, overloaded}
+use Rattle.interval.specs.declared.Kind.{Kind}
+use Rattle.interval.specs.declared.Kind.the-variants.{Time, Energy}
 use Rattle.judge.specs.Numbers.{noInterval, notOverloaded}
 use Rattle.judge.specs.declared.Sums.{Sums}
 

@@ -10,9 +10,9 @@ use Rattle.sheet.specs.Table.{idleByte, jobOf, Day}
 use Rattle.plan_slots.specs.Plan.{byteOf, slotsGot, levelAt}
 use Rattle.plan_slots.specs.declared.PlanFault.{PlanFault}
 use Rattle.plan_slots.specs.declared.PlanFault.the-variants.{WrongLength, NoJob, OutsideWindow, HasAllSlots, LacksCharge, LacksSlots}
-use Rattle.demand.specs.Demand.{kindNumber, demandOf, supplyOf}
-use Rattle.demand.specs.declared.Kind.{Kind}
-use Rattle.demand.specs.declared.Kind.the-variants.{Time, Energy}
+use Rattle.interval.specs.Demand.{kindNumber, demandOf, supplyOf}
+use Rattle.interval.specs.declared.Kind.{Kind}
+use Rattle.interval.specs.declared.Kind.the-variants.{Time, Energy}
 use Rattle.judge.specs.declared.Sums.{Sums}
 
 -- slot i of the day is job k's

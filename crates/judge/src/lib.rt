@@ -1,7 +1,7 @@
 // The judge of evidence, a plan or an interval, whoever brings it: a plan is accepted exactly when the
 // day can be run by it, an interval exactly when its demand exceeds its supply. The judge knows the
-// sheet and what demand is, and nothing of the run or the planner.
-use demand::Kind;
+// sheet and what demand is, and nothing of the search, the run or the planner.
+use interval::Kind;
 use plan_slots::Finding;
 pub use plan_slots::PlanFault;
 pub use plan_slots::number;
@@ -19,7 +19,7 @@ ghost use Rattle.sheet.specs.Paper.{numberOf};
 ghost use Rattle.sheet.specs.Sums.{harvestOf, mostHarvest, mostCost};
 ghost use Rattle.sheet.specs.Table.{mostJobs, mostSlots, dayOf};
 ghost use Rattle.sheet.specs.WellFormed.{GoodDay};
-ghost use Rattle.demand.specs.Demand.{shareOf, demandOf};
+ghost use Rattle.interval.specs.Demand.{shareOf, demandOf};
 ghost use Rattle.judge.specs.Judge.{claimFault, kindOf, sumsOf};
 ghost use Rattle.judge.specs.Promise.{claimAnswered, JudgesPlan, JudgesClaim};
 
@@ -158,7 +158,7 @@ fn demand_of(t: Table, kind: Kind, from: u16, to: u16) -> u32
     let mut demand: u32 = 0;
     let mut k = 0;
     while k < count {
-        if demand::is_within(from, to, t.jobs[k].release, t.jobs[k].deadline) {
+        if interval::is_within(from, to, t.jobs[k].release, t.jobs[k].deadline) {
             demand += share(kind, t.jobs[k]);
         }
         k += 1;

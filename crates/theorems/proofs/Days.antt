@@ -12,10 +12,10 @@ use Rattle.sheet.specs.Sums.{total, some, harvestOf}
 use Rattle.sheet.specs.Table.{countedAs, countsFault, windowFault, workFault}
 use Rattle.sheet.specs.Sheet.{recordBytes, trailerBytes, sheetBytes, tableIn, harvestIn, markFault, layoutFault, sheetFaults, sheetSays}
 use Rattle.sheet.specs.declared.Job.{Job}
-use Rattle.demand.specs.Demand.{kindNumber, demandOf, overloaded}
+use Rattle.interval.specs.Demand.{kindNumber, demandOf, overloaded}
 use Rattle.demand.specs.Search.{isRelease, isDeadline, foundAt, latestStart, smallestEnd}
-use Rattle.demand.specs.declared.Kind.{Kind}
-use Rattle.demand.specs.declared.Kind.the-variants.{Time, Energy}
+use Rattle.interval.specs.declared.Kind.{Kind}
+use Rattle.interval.specs.declared.Kind.the-variants.{Time, Energy}
 use Rattle.choice.specs.Choosing.{ready, earliest, chosen, unfinished}
 use Rattle.slacks.specs.Slack.{least, pending, slackTime, coming, slackEnergy}
 use Rattle.rules.specs.Rules.{ruleFor, decided, nextState}

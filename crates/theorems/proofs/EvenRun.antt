@@ -17,9 +17,9 @@ use Rattle.sheet.proofs.Exactly.{either}
 use Rattle.sheet.proofs.Words.{and-true}
 use Rattle.sheet.proofs.Lists.{filled-get}
 use Rattle.sheet.proofs.Sums.{total-same, total-bound, harvest-from}
-use Rattle.demand.specs.Demand.{within, demandOf, Overloaded}
-use Rattle.demand.specs.declared.Kind.{Kind}
-use Rattle.demand.specs.declared.Kind.the-variants.{Time, Energy}
+use Rattle.interval.specs.Demand.{within, demandOf, Overloaded}
+use Rattle.interval.specs.declared.Kind.{Kind}
+use Rattle.interval.specs.declared.Kind.the-variants.{Time, Energy}
 use Rattle.demand.proofs.Shrinking.{not-empty}
 use Rattle.choice.specs.declared.Choice.{Choice}
 use Rattle.choice.specs.declared.Choice.the-variants.{Nobody, Job}

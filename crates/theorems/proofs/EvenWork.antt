@@ -13,8 +13,8 @@ use Rattle.sheet.specs.Table.{jobOf, costOf, Day}
 use Rattle.sheet.proofs.Exactly.{either, never-both}
 use Rattle.sheet.proofs.Words.{and-left, and-right, and-true}
 use Rattle.sheet.proofs.Sums.{total-same, total-at-most, total-bound, term-at-most, some-where, not-some, harvest-grows}
-use Rattle.demand.specs.Demand.{within, demandOf}
-use Rattle.demand.specs.declared.Kind.the-variants.{Time}
+use Rattle.interval.specs.Demand.{within, demandOf}
+use Rattle.interval.specs.declared.Kind.the-variants.{Time}
 use Rattle.choice.specs.declared.State.{State}
 use Rattle.choice.specs.Choosing.{deadlineOf, leftOf, ready}
 use Rattle.slacks.specs.Slack.{wants, pending, slackTime, zeroOrLess, comesBefore, coming, slackEnergy, isBelow}

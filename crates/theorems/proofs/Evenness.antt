@@ -13,7 +13,7 @@ use Rattle.sheet.specs.Table.{countedAs, countsFault, windowFault, workFault, j
 use Rattle.sheet.specs.Sheet.{recordBytes, trailerBytes, sheetBytes, slotsIn, tableIn, harvestIn, markFault, layoutFault, sheetFaults, sheetSays}
 use Rattle.sheet.specs.WellFormed.{WellFormed}
 use Rattle.sheet.proofs.Stated.{sheet-leaves}
-use Rattle.demand.specs.Demand.{demandOf, overloaded}
+use Rattle.interval.specs.Demand.{demandOf, overloaded}
 use Rattle.demand.specs.Search.{isRelease, isDeadline, foundAt, latestStart, smallestEnd}
 use Rattle.choice.specs.Choosing.{ready, earliest, chosen, unfinished}
 use Rattle.slacks.specs.Slack.{least, pending, slackTime, coming, slackEnergy}

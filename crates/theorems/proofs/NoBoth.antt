@@ -15,9 +15,9 @@ use Rattle.sheet.specs.WellFormed.{GoodDay}
 use Rattle.sheet.proofs.Exactly.{either}
 use Rattle.sheet.proofs.Sums.{total-same, total-at-most, total-bound}
 use Rattle.sheet.proofs.Words.{and-left, and-right}
-use Rattle.demand.specs.Demand.{within, demandOf, supplyOf}
-use Rattle.demand.specs.declared.Kind.{Kind}
-use Rattle.demand.specs.declared.Kind.the-variants.{Time, Energy}
+use Rattle.interval.specs.Demand.{within, demandOf, supplyOf}
+use Rattle.interval.specs.declared.Kind.{Kind}
+use Rattle.interval.specs.declared.Kind.the-variants.{Time, Energy}
 use Rattle.plan_slots.specs.Plan.{byteOf, namesJob, slotsGot, spentIn, levelAt}
 use Rattle.judge.specs.Evidence.{AcceptablePlan, AcceptableClaim}
 use Rattle.theorems.proofs.Counting.{total-swap, total-weighed, total-stretch, weight-none, weight-one}

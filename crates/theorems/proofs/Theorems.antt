@@ -13,7 +13,7 @@ use Rattle.sheet.specs.Table.{dayOf}
 use Rattle.sheet.specs.WellFormed.{GoodDay, WellFormed}
 use Rattle.sheet.specs.declared.Table.{Table}
 use Rattle.sheet.proofs.HandedIn.{check-leaves, sound-day}
-use Rattle.demand.specs.Demand.{kindNumber}
+use Rattle.interval.specs.Demand.{kindNumber}
 use Rattle.demand.specs.Search.{firstOverload}
 use Rattle.demand.specs.declared.Found.{Found}
 use Rattle.demand.specs.declared.Found.the-variants as Found

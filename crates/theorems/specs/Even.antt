@@ -6,7 +6,7 @@ use mathlib.Core.Logic.{_⊎_}
 use Rattle.sheet.specs.HandedIn.{HandedIn}
 use Rattle.sheet.specs.Sums.{harvestAt}
 use Rattle.sheet.specs.Table.{jobOf, Day}
-use Rattle.demand.specs.Demand.{kindNumber}
+use Rattle.interval.specs.Demand.{kindNumber}
 use Rattle.demand.specs.declared.Overload.{Overload}
 use Rattle.planner.specs.declared.Planned.{Planned}
 use Rattle.planner.specs.declared.Planned.the-variants.{Overloaded, Met}

@@ -5,10 +5,10 @@ use native.Mathlib.Omega.{arith}
 use lib.ListN.{getD}
 use Rattle.sheet.specs.Sums.{mostCost}
 use Rattle.sheet.proofs.Sums.{total-none}
-use Rattle.demand.specs.Demand.{demandOf}
+use Rattle.interval.specs.Demand.{demandOf}
 use Rattle.demand.specs.Steps.{dueAt, mostDue, DueBy}
-use Rattle.demand.specs.declared.Kind.{Kind}
-use Rattle.demand.specs.declared.Kind.the-variants.{Time, Energy}
+use Rattle.interval.specs.declared.Kind.{Kind}
+use Rattle.interval.specs.declared.Kind.the-variants.{Time, Energy}
 use Rattle.demand.proofs.Loops.{demandUpTo, demand-more}
 use borrow.Author.Needs.{needs}
 use Rattle.demand.proofs.demands_of.Statement.{statement}

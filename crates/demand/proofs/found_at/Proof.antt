@@ -8,11 +8,11 @@ use borrow.Author.Tests.{lt-ltb, le-ltb}
 use borrow.Author.Needs.{needs}
 use Rattle.sheet.specs.Table.{Day, dayOf}
 use Rattle.totals.proofs.Entries.{harvest-read}
-use Rattle.demand.specs.Demand.{demandOf, supplyOf, overloaded}
+use Rattle.interval.specs.Demand.{demandOf, supplyOf, overloaded}
 use Rattle.demand.specs.Search.{foundAt}
 use Rattle.demand.specs.Steps.{Lent}
 use Rattle.demand.specs.declared.Found.the-variants as Found
-use Rattle.demand.specs.declared.Kind.the-variants.{Time, Energy}
+use Rattle.interval.specs.declared.Kind.the-variants.{Time, Energy}
 use Rattle.demand.proofs.found_at.Statement.{statement}
 use Rattle.demand.proofs.found_at.Tie as tie
 

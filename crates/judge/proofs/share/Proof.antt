@@ -1,6 +1,6 @@
 -- Each kind has its own share.
 use mathlib.Core.Path.{sym, ap, _∙_}
-use Rattle.demand.specs.Demand.{shareOf}
+use Rattle.interval.specs.Demand.{shareOf}
 use borrow.Author.Needs.{needs}
 use Rattle.judge.proofs.share.Statement.{statement}
 use Rattle.judge.proofs.share.Tie as tie

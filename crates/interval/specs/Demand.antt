@@ -5,8 +5,8 @@ use lib.Dec.{ltb, leb}
 use Rattle.sheet.specs.Sums.{totalOf, harvestOf}
 use Rattle.sheet.specs.Table.{jobOf, costOf, Day}
 use Rattle.sheet.specs.declared.Job.{Job}
-use Rattle.demand.specs.declared.Kind.{Kind}
-use Rattle.demand.specs.declared.Kind.the-variants.{Time, Energy}
+use Rattle.interval.specs.declared.Kind.{Kind}
+use Rattle.interval.specs.declared.Kind.the-variants.{Time, Energy}
 
 -- the two kinds, by the paper's numbers: "kind .. 0 (time) .. 1 (energy)"
 abbrev pub kindNumber : Kind → ℕ
