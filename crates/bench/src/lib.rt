@@ -1,5 +1,7 @@
 // The calls that the benchmark times and measures: a sheet is read and written back, searched, planned,
 // and stepped, and evidence is judged against it.
+#![tactic(auto)]
+
 ghost use Rattle.std.specs.Prelude.{◌≡◌, ℕ, ◌+◌, ◌*◌, ◌%◌, ◌<◌, ◌≤◌};
 ghost use Rattle.sheet.specs.Table.{most_jobs};
 ghost use Rattle.interval.specs.Demand.{kind_number};

@@ -1,9 +1,11 @@
 // A state of the run, and the choice among its jobs: the smallest deadline, ties the lowest number.
+#![tactic(auto)]
+
 ghost use Rattle.std.specs.Prelude.{◌≡◌, not, ◌&&◌, ◌||◌, ltb, leb};
 
 // A state of the run, as a slot begins: the slot, the charge level, and the slots that each job
 // still wants. What stands beyond the table's last job is never looked at, and is handed on.
-#[derive(Drop)]
+#[derive(Clone, Copy)]
 pub struct State {
     pub slot: u16,
     pub level: u16,
@@ -11,7 +13,7 @@ pub struct State {
 }
 
 // A choice among the jobs: the smallest deadline, ties the lowest number.
-#[derive(Drop)]
+#[derive(Clone, Copy)]
 pub enum Choice {
     // No job came into question.
     Nobody,

@@ -1,5 +1,7 @@
 // A table's jobs by columns, in one array: a sum over all jobs runs over columns several times as fast
 // as over the table. Whoever sums makes them for itself; no call of another crate is handed columns.
+#![tactic(auto)]
+
 ghost use Rattle.std.specs.Prelude.{min, ◌≡◌};
 ghost use Rattle.sheet.specs.Table.{most_jobs};
 ghost use Rattle.columns.specs.Columns.{ColumnsOf};

@@ -1,6 +1,8 @@
 // Reads one day sheet from standard input and prints its day: a line for each slot and the verdict,
 // or the refusal's number.
 
+#![tactic(auto)]
+
 // The longest input that is taken for a sheet, in bytes.
 const LONGEST: usize = 4096;
 

@@ -1,4 +1,6 @@
 // The search for the overloaded interval that comes first.
+#![tactic(auto)]
+
 ghost use Rattle.std.specs.Prelude.{◌≡◌, List, cond, ◌&&◌, leb, length, ℕ, ◌*◌, ◌<◌, ◌≤◌};
 ghost use Rattle.sheet.specs.HandedIn.{on_table};
 ghost use Rattle.sheet.specs.Sums.{most_cost};
@@ -13,7 +15,7 @@ use sheet::{Outcome, Refusal, Table};
 
 // An overloaded interval, the slots from `from` up to, not including, `to`: what its jobs demand in
 // that kind is above what it can supply.
-#[derive(Drop)]
+#[derive(Clone, Copy)]
 pub struct Overload {
     pub kind: Kind,
     pub from: u16,
@@ -23,14 +25,14 @@ pub struct Overload {
 }
 
 // What is found among some intervals of an accepted table.
-#[derive(Drop)]
+#[derive(Clone, Copy)]
 pub enum Found {
     Interval(Overload),
     Nothing,
 }
 
 // The search's answer.
-#[derive(Drop)]
+#[derive(Clone, Copy)]
 pub enum Searched {
     // The table or the harvest is refused: 3, 4, 5 or 6.
     Refused(Refusal),
@@ -88,7 +90,7 @@ fn set_due(t: Table, columns: &Columns, to: u16, due: &mut Due)
 }
 
 // What the jobs of an interval demand, of each kind.
-#[derive(Drop)]
+#[derive(Clone, Copy)]
 struct Demands {
     time: u32,
     energy: u32,

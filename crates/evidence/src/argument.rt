@@ -6,7 +6,7 @@ ghost use Rattle.evidence.specs.Decimal.{largest, is_digit, number_in};
 pub const LONGEST: usize = 131072;
 
 // A number in an argument.
-#[derive(Drop)]
+#[derive(Clone, Copy)]
 pub enum Number {
     Is(u64),
     // the argument is not of decimal digits

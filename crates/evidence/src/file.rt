@@ -11,7 +11,7 @@ const LONGEST: usize = 4096;
 pub const ROOM: usize = LONGEST + 1;
 
 // What a file holds.
-#[derive(Drop)]
+#[derive(Clone, Copy)]
 pub enum Content {
     // so many bytes, in the room that was lent
     Bytes(usize),
@@ -20,7 +20,7 @@ pub enum Content {
 }
 
 // What reading brought: so many bytes, and whether a read failed.
-#[derive(Drop)]
+#[derive(Clone, Copy)]
 struct Got {
     count: usize,
     failed: bool,

@@ -5,6 +5,8 @@
 //     evidence SHEET claim KIND START END
 //
 // The arguments are looked at first, then the sheet's file, then the plan's; only then is judged.
+#![tactic(auto)]
+
 mod argument;
 mod file;
 

@@ -1,8 +1,10 @@
 // An interval of the day: its kinds of demand, and which jobs are its own.
+#![tactic(auto)]
+
 ghost use Rattle.std.specs.Prelude.{◌≡◌, ◌&&◌, leb};
 
 // The two kinds of demand: slots of time, and charge.
-#[derive(Drop)]
+#[derive(Clone, Copy)]
 pub enum Kind {
     Time,
     Energy,

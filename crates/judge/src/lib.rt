@@ -1,6 +1,8 @@
 // The judge of evidence, a plan or an interval, whoever brings it: a plan is accepted exactly when the
 // day can be run by it, an interval exactly when its demand exceeds its supply. The judge knows the
 // sheet and what demand is, and nothing of the search, the run or the planner.
+#![tactic(auto)]
+
 ghost use Rattle.std.specs.Prelude.{◌≡◌, length, List, ℕ, ◌<◌, ◌≤◌};
 ghost use Rattle.sheet.specs.HandedIn.{on_sheet, on_table};
 ghost use Rattle.sheet.specs.Paper.{number_of};
@@ -17,7 +19,7 @@ pub use plan_slots::{PlanFault, number, place};
 use sheet::{Job, Outcome, Refusal, Table};
 
 // The answer to a plan.
-#[derive(Drop)]
+#[derive(Clone, Copy)]
 pub enum JudgedPlan {
     // The sheet, the table or the harvest is refused: 1 to 6.
     Refused(Refusal),
@@ -29,14 +31,14 @@ pub enum JudgedPlan {
 }
 
 // What was weighed: the demand and the supply of the claimed interval, in the claimed kind.
-#[derive(Drop)]
+#[derive(Clone, Copy)]
 pub struct Sums {
     pub demand: u32,
     pub supply: u32,
 }
 
 // The answer to a claim.
-#[derive(Drop)]
+#[derive(Clone, Copy)]
 pub enum JudgedClaim {
     // The sheet, the table or the harvest is refused: 1 to 6.
     Refused(Refusal),

@@ -1,4 +1,6 @@
 // The judge's calls that a request asks for, and the line of each (docs/TRIALS.md).
+#![tactic(auto)]
+
 use judge::{JudgedClaim, JudgedPlan, PlanFault, Sums};
 
 // In a claim the start stands behind the kind, and the end behind the start.

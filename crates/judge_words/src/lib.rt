@@ -1,5 +1,7 @@
 // What the judge says of evidence, in words: the line of the program `evidence` for a plan and for a
 // claim.
+#![tactic(auto)]
+
 ghost use Rattle.std.specs.Prelude.{◌≡◌, ◌<◌, length, get_or};
 ghost use Rattle.judge_words.specs.Words.{GoodJobs, IsJobs, Stands};
 
@@ -95,7 +97,7 @@ fn print_no_job(byte: usize, count: usize) {
 }
 
 // A job with its number.
-#[derive(Drop)]
+#[derive(Clone, Copy)]
 struct Numbered {
     number: usize,
     job: Job,

@@ -1,6 +1,8 @@
 // The parts that the lines of docs/TRIALS.md have in common. A line is made in a space that is lent: a
 // function puts its part behind the `at` bytes that stand there and answers how many stand there now.
 // Where the space is full, what stands there is printed and the line goes on at its front.
+#![tactic(auto)]
+
 ghost use Rattle.std.specs.Prelude.{◌≤◌, length};
 ghost use Rattle.sheet.specs.Table.{most_jobs};
 

@@ -1,4 +1,6 @@
 // The listing of a day, as the program `day` prints it.
+#![tactic(auto)]
+
 ghost use Rattle.std.specs.Prelude.{◌≤◌};
 ghost use Rattle.sheet.specs.Table.{most_slots};
 

@@ -1,4 +1,6 @@
 // The calls of `demand` and `planner` that a request asks for, and the line of each (docs/TRIALS.md).
+#![tactic(auto)]
+
 use demand::{Kind, Overload, Searched};
 use planner::Planned;
 

@@ -1,5 +1,7 @@
 // The pass over a plan's slots: 12 to 16, for a table and a harvest that were checked. It is the judge's,
 // and knows the sheet alone.
+#![tactic(auto)]
+
 ghost use Rattle.std.specs.Prelude.{◌≡◌, ◌&&◌, ltb, leb, length, ◌<◌, ◌≤◌};
 ghost use Rattle.sheet.specs.Paper.{number_of, place_of};
 ghost use Rattle.sheet.specs.Table.{most_jobs, day_of};
@@ -11,7 +13,7 @@ ghost use Rattle.plan_slots.specs.Steps.{JobLeaves, ends_by};
 use sheet::{Job, Table};
 
 // Why a plan is refused, with the slot, and for 16 the job, that document 01 names.
-#[derive(Drop)]
+#[derive(Clone, Copy)]
 pub enum PlanFault {
     // 11: the plan is not of slots bytes
     WrongLength,
@@ -66,7 +68,7 @@ fn may_run(j: Job, slot: usize) -> bool
 }
 
 // What is found of a slot.
-#[derive(Drop)]
+#[derive(Clone, Copy)]
 enum Passed {
     // The level as the next slot begins.
     Level(u16),
@@ -104,7 +106,7 @@ fn judge_job(
 }
 
 // What is found of a part of a plan.
-#[derive(Drop)]
+#[derive(Clone, Copy)]
 pub enum Finding {
     Nothing,
     Fault(PlanFault),

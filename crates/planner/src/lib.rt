@@ -1,4 +1,6 @@
 // The planner: an overloaded interval, or the plan of the day's run and whether it meets every job.
+#![tactic(auto)]
+
 ghost use Rattle.sheet.specs.HandedIn.{on_sheet, on_table};
 ghost use Rattle.sheet.specs.Table.{day_of};
 ghost use Rattle.sheet.specs.WellFormed.{GoodDay};
@@ -9,7 +11,7 @@ use sheet::{Outcome, Refusal, Table};
 use slot_run::Choice;
 
 // The planner's answer.
-#[derive(Drop)]
+#[derive(Clone, Copy)]
 pub enum Planned {
     // The sheet, the table or the harvest is refused: 1 to 6.
     Refused(Refusal),

@@ -1,4 +1,6 @@
 // Words and numbers on standard output.
+#![tactic(auto)]
+
 const STANDARD_OUTPUT: i32 = 1;
 
 // Prints these bytes as they stand.

@@ -1,5 +1,7 @@
 // The sheet reader: the table that stands in the bytes of a day sheet, or the refusal with its
 // number, and the harvest as that stretch of the caller's own bytes.
+#![tactic(auto)]
+
 ghost use Rattle.std.specs.Prelude.{◌≡◌, ◌+◌, ◌*◌, ◌-◌, ◌≤◌, ◌<◌, length, replicate};
 ghost use Rattle.sheet.specs.Table.{most_jobs};
 ghost use Rattle.sheet.specs.Sheet.{u16_at, job_in, jobs_in, slots_in, mark_fault, layout_fault, record_length, trailer_length};
@@ -9,7 +11,7 @@ ghost use Rattle.reader.specs.Promise.{no_table, harvest_read, Reads, harvest_be
 use sheet::{Job, Outcome, Refusal, Table};
 
 // What reading a sheet yields. Of a refused sheet the table has no jobs, slots 0 and capacity 0.
-#[derive(Drop)]
+#[derive(Clone, Copy)]
 pub struct Reading {
     pub outcome: Outcome,
     pub table: Table,
@@ -77,7 +79,7 @@ fn layout_fault(bytes: &[u8], count: usize, slots: u16) -> bool
 }
 
 // What the trailer says: the refusal, 1 to 4, and no jobs, slots 0 and capacity 0; or its numbers.
-#[derive(Drop)]
+#[derive(Clone, Copy)]
 struct Trailer {
     outcome: Outcome,
     count: usize,

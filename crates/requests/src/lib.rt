@@ -1,5 +1,7 @@
 // The parts of a request's payload, as docs/TRIALS.md lays them out: where each ends, and what
 // stands in it. Every function takes any bytes.
+#![tactic(auto)]
+
 ghost use Rattle.std.specs.Prelude.{◌≤◌, ◌<◌, length};
 
 use sheet::{Job, Table};

@@ -1,10 +1,12 @@
 // The six rules of the slot run, and what a slot leaves.
+#![tactic(auto)]
+
 ghost use Rattle.std.specs.Prelude.{◌≡◌, ◌||◌, ◌+◌, ltb};
 ghost use Rattle.sheet.specs.Table.{counted_as};
 ghost use Rattle.rules.specs.Rules.{decision_says, first_rule};
 
 // Why a slot is busy.
-#[derive(Drop)]
+#[derive(Clone, Copy)]
 pub enum BusyWhy {
     // Rule 3: what is at hand is above capacity, and would spill.
     Full,
@@ -15,7 +17,7 @@ pub enum BusyWhy {
 }
 
 // Why a slot is idle.
-#[derive(Drop)]
+#[derive(Clone, Copy)]
 pub enum IdleWhy {
     // Rule 1: no job is ready.
     None,
@@ -26,7 +28,7 @@ pub enum IdleWhy {
 }
 
 // What a slot does: busy with a job, or idle, and why.
-#[derive(Drop)]
+#[derive(Clone, Copy)]
 pub enum Decision {
     Busy(usize, BusyWhy),
     Idle(IdleWhy),

@@ -1,4 +1,6 @@
 // The calls of `slot_run` that a request asks for, and the line of each (docs/TRIALS.md).
+#![tactic(auto)]
+
 ghost use Rattle.std.specs.Prelude.{◌≤◌};
 ghost use Rattle.sheet.specs.Table.{most_jobs};
 

@@ -1,5 +1,7 @@
 // The day sheet's table: its jobs, its slots and its capacity, and the check that every call makes
 // of a table and a harvest that are handed to it in place of a sheet.
+#![tactic(auto)]
+
 ghost use Rattle.std.specs.Prelude.{◌≡◌, min, ◌*◌, ◌≤◌};
 ghost use Rattle.sheet.specs.Paper.{in_order};
 ghost use Rattle.sheet.specs.Refusals.{refusal_number, refusal_place, outcome_says, record_says};
@@ -25,7 +27,7 @@ pub const IDLE: u8 = 255;
 
 // A job may run in the slots from its release up to, not including, its deadline. It wants that
 // many slots, and each slot that it is busy costs its energy.
-#[derive(Drop)]
+#[derive(Clone, Copy)]
 pub struct Job {
     pub release: u16,
     pub deadline: u16,
@@ -35,7 +37,7 @@ pub struct Job {
 
 // A table: the first `count` places of `jobs` are its jobs, in order. What stands in the other
 // places is no part of the table. `read` leaves zeros there, and no call looks.
-#[derive(Drop)]
+#[derive(Clone, Copy)]
 pub struct Table {
     pub jobs: [Job; MOST_JOBS],
     pub count: usize,
@@ -44,7 +46,7 @@ pub struct Table {
 }
 
 // Why a sheet or a table is refused. `number` gives the refusal's number in document 01.
-#[derive(Drop)]
+#[derive(Clone, Copy)]
 pub enum Refusal {
     // 1: the sheet is under 12 bytes
     Short,
@@ -61,7 +63,7 @@ pub enum Refusal {
 }
 
 // The answer of a check.
-#[derive(Drop)]
+#[derive(Clone, Copy)]
 pub enum Outcome {
     Accepted,
     Refused(Refusal),

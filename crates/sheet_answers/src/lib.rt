@@ -1,5 +1,7 @@
 // The calls of `sheet`, `reader` and `writer` that a request asks for, and the line of each
 // (docs/TRIALS.md).
+#![tactic(auto)]
+
 use writer::Written;
 
 // Behind the sheet of a stretch stand its count and then its slots.

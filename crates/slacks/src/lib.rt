@@ -1,5 +1,7 @@
 // The two slacks, as rules 4 and 5 ask of them: without signs, of one job after the other. Each function
 // takes the numbers of one job; who sums over the jobs reads them off its columns.
+#![tactic(auto)]
+
 ghost use Rattle.std.specs.Prelude.{◌≡◌, cond, ◌&&◌, ◌+◌, ◌≤◌, ltb, leb};
 
 // ---- slack time

@@ -1,4 +1,6 @@
 // The ED-H slot run: the first state of a day, one step from any state, and the run of a whole day.
+#![tactic(auto)]
+
 mod earliest;
 mod slot;
 mod sums;
@@ -17,7 +19,7 @@ pub use rules::{BusyWhy, Decision, IdleWhy};
 use sheet::{Outcome, Refusal, Table};
 
 // A step's answer.
-#[derive(Drop)]
+#[derive(Clone, Copy)]
 pub enum Stepped {
     // The table or the harvest is refused: 3, 4, 5 or 6.
     Refused(Refusal),
@@ -29,14 +31,14 @@ pub enum Stepped {
 
 // What a step yields: its answer and the state after it, which is the state that was handed in
 // where the step was refused or the day is over.
-#[derive(Drop)]
+#[derive(Clone, Copy)]
 pub struct StepResult {
     pub answer: Stepped,
     pub state: State,
 }
 
 // What starting a day yields. Where the table or the harvest is refused the state is all zeros.
-#[derive(Drop)]
+#[derive(Clone, Copy)]
 pub struct Start {
     pub outcome: Outcome,
     pub state: State,
@@ -46,7 +48,7 @@ pub struct Start {
 // the charge at hand in it, and what the slots before it harvested. Nothing is looked up by this slot:
 // one that is itself an index in the loop over the day is compared with releases and deadlines at an
 // index's width, and the sums over the jobs take twice as long.
-#[derive(Drop)]
+#[derive(Clone, Copy)]
 struct Now {
     count: usize,
     capacity: u16,

@@ -10,7 +10,7 @@ use choice::Choice;
 use rules::{Decision, IdleWhy};
 
 // What a slot did, and the level after it.
-#[derive(Drop)]
+#[derive(Clone, Copy)]
 pub struct Taken {
     pub decision: Decision,
     pub level: u16,

@@ -1,5 +1,7 @@
 // Running totals of a harvest: what the first slots harvest, for every number of them, so that the
 // harvest of any slots in a row is the difference of two.
+#![tactic(auto)]
+
 ghost use Rattle.std.specs.Prelude.{min, ◌≡◌};
 ghost use Rattle.sheet.specs.Table.{most_slots};
 ghost use Rattle.totals.specs.Totals.{TotalsOf};

@@ -1,5 +1,7 @@
 // Reads requests from standard input, makes the call of each, and prints a line with the answer and
 // every buffer that was lent (docs/TRIALS.md has the requests and the lines).
+#![tactic(auto)]
+
 ghost use Rattle.std.specs.Prelude.{◌≤◌};
 
 const STANDARD_INPUT: i32 = 0;

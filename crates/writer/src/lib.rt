@@ -1,4 +1,6 @@
 // The sheet writer: a table and a harvest, as the bytes of a day sheet at the front of a lent buffer.
+#![tactic(auto)]
+
 ghost use Rattle.std.specs.Prelude.{◌≡◌, [], ◌∷◌, ◌+◌, ◌*◌, ◌≤◌, length};
 ghost use Rattle.sheet.specs.HandedIn.{on_table};
 ghost use Rattle.sheet.specs.Lists.{joined};
@@ -10,7 +12,7 @@ ghost use Rattle.writer.specs.Promise.{Writes};
 use sheet::{Outcome, Refusal, Table};
 
 // The writer's answer.
-#[derive(Drop)]
+#[derive(Clone, Copy)]
 pub enum Written {
     // The sheet stands at the front of the buffer, and is that many bytes long.
     Length(usize),

@@ -1,0 +1,6 @@
+-- The places are all empty, and the numbers 0.
+use borrow.Author.Rules.{rules}
+use Rattle.reader.proofs.no_table.Goals as goal
+
+pub returns : goal.returns
+returns c = cc

@@ -1,0 +1,21 @@
+-- The loop keeps: no record before k refuses. The first that does is the answer.
+use Prim.Native.Nat.{ℕ, ◌≤◌, ◌-◌}
+use native.Mathlib.Omega.{arith}
+use mathlib.Core.Path.{◌≡◌, refl, sym, subst, ◌∙◌}
+use Rattle.sheet.specs.Paper.{Check, gives, in_order}
+use Rattle.sheet.specs.Refusals.{record_says}
+use Rattle.sheet.specs.Table.{job_of, window_fault, work_fault}
+use Rattle.sheet.specs.declared.Table.{Table}
+use Rattle.sheet.proofs.Order.{in_order_none, in_order_clear, in_order_first}
+use Rattle.sheet.proofs.Refusals.{says_refuses, says_gives}
+use borrow.Author.Rules.{rules}
+use Rattle.sheet.proofs.check_records.Given as goal
+
+abbrev pub record_is : Table → ℕ → Check
+record_is t k = record_says (window_fault t.slots (job_of t k)) (work_fault (job_of t k) 0) k
+
+abbrev pub invariant-loop-k : goal.invariant-loop-k
+invariant-loop-k l = (l.count ≡ l.t.count) × (l.slots ≡ l.t.slots) × (l.k ≤ l.count) × (in_order (record_is l.t) l.k ≡ gives tt)
+
+abbrev pub decreases-loop-k : goal.decreases-loop-k
+decreases-loop-k l = l.count - l.k

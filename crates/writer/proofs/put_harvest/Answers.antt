@@ -1,0 +1,21 @@
+-- The invariant: the first i bytes of the harvest are laid at the place.
+use Prim.Native.Nat.{◌≤◌, ◌-◌}
+use mathlib.Core.Path.{◌≡◌, refl}
+use native.Mathlib.Omega.{arith}
+use lib.ListN.{length, take}
+use lib.Seq.{take-length}
+use Rattle.writer.specs.Laid.{Laid}
+use Rattle.writer.proofs.Laying.{laid_none, laid_byte}
+use borrow.Author.Rules.{rules}
+use Rattle.writer.proofs.put_harvest.Goals as goal
+
+pub loop-i-init : goal.loop-i-init
+loop-i-init c = (search rules, refl, laid_none _ _)
+
+pub loop-i-preserved : goal.loop-i-preserved
+loop-i-preserved c = (search rules, search rules, search laid_byte)
+
+pub returns : goal.returns
+returns c =
+    let at_end : c.loop-i.i ≡ length c.args.harvest.now = omega arith in
+    rw (at_end, take-length) at c.loop-i.invariant.2

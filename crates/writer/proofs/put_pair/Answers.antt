@@ -1,0 +1,12 @@
+-- The two stores are the run of two bytes.
+use native.Mathlib.Numerals.{add-one}
+use native.Mathlib.Omega.{arith}
+use lib.ListN.{length-set}
+use borrow.Author.Rules.{rules}
+use Rattle.writer.proofs.put_pair.Goals as goal
+
+pub bounds-out-at-2 : goal.bounds-out-at-2
+bounds-out-at-2 c = simp length-set (omega arith)
+
+pub returns : goal.returns
+returns c = record { stored = rw add-one }
