@@ -14,14 +14,11 @@ use Rattle.plan_slots.specs.declared.PlanFault.TheVariants.{OutsideWindow, HasAl
 use Rattle.plan_slots.proofs.judge_job.Goals as goal
 
 module _ (j : Job) (i got charge : ℕ) {may : Bool} (asked : may ≡ (leb j.release i && ltb i j.deadline)) where
-  thirteen : not may ≡ true → fault_says (OutsideWindow i) ≡ job_says j i got charge
+  thirteen : may ≡ false → fault_says (OutsideWindow i) ≡ job_says j i got charge
   unfolding job_says
-  thirteen is-not = rw (sym asked ∙ not-true may is-not)
+  thirteen is_not = rw (sym asked ∙ is_not)
 
-  module _ (is-not : not may ≡ false) where
-    is : may ≡ true
-    is = not-false may is-not
-
+  module _ (is : may ≡ true) where
     fourteen : j.wanted ≤ got → fault_says (HasAllSlots i) ≡ job_says j i got charge
     unfolding job_says
     fourteen h = rw (sym asked ∙ is, le-leb _ _ h)

@@ -11,7 +11,7 @@ pub returns-then-u16_at-slots : goal.returns-then-u16_at-slots
 unfolding layout_fault
 returns-then-u16_at-slots c =
     let s = c.args.bytes.now in
-    rw (ne_eqb (harvest_back s) (slots_in s) (λ e. c.if-u16_at-slots.true (c.u16_at.ensures ∙ e ∙ sym c.requires.1.1)))
+    rw (ne_eqb (harvest_back s) (slots_in s) (λ e. c.if-u16_at-slots.true (c.u16_at.ensures ∙ e ∙ sym c.requires.count_value.1)))
 
 pub returns-then-u16_at-back : goal.returns-then-u16_at-back
 unfolding layout_fault
@@ -29,6 +29,6 @@ returns c =
     rw (
       eq-eqb (harvest_back s) (slots_in s) (omega arith),
       eq-eqb (first_job_back s) (slots_in s + record_length * jobs_in s) (omega arith),
-      c.requires.1.0,
-      c.requires.1.1,
+      c.requires.count_value.0,
+      c.requires.count_value.1,
     )

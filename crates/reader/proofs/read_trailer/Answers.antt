@@ -5,10 +5,10 @@ use Rattle.reader.proofs.Records.{short_reads, mark_reads, counts_reads, layout_
 use borrow.Author.Rules.{rules}
 use Rattle.reader.proofs.read_trailer.Goals as goal
 
-pub layout_fault-requires : goal.layout_fault-requires
-layout_fault-requires c =
+pub layout_fault-requires-clause-count_value : goal.layout_fault-requires-clause-count_value
+layout_fault-requires-clause-count_value c =
     let few = ((counts_words _ _).0 (sym c.counts_fault.ensures ∙ c.if-counts_fault.false)).0 in
-    (search rules, (search rules, search rules, few))
+    (search rules, search rules, few)
 
 pub returns-then-length-lt-TRAILER_LENGTH : goal.returns-then-length-lt-TRAILER_LENGTH
 returns-then-length-lt-TRAILER_LENGTH c = search short_reads

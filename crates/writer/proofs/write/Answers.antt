@@ -23,8 +23,10 @@ returns-then-out-length c = search writes_no_room
 
 pub put_sheet-requires : goal.put_sheet-requires
 put_sheet-requires c =
-    let known = good (goal.at.put_sheet-requires c).In_default in
-    ((known.few_jobs, known.few_slots, known.harvest_fits), (c.sheet_length-length.ensures, c.if-out-length.false))
+    let known = good (goal.at.put_sheet-requires c).In_default in record {
+      count_le_most_jobs = (known.few_jobs, known.few_slots, known.harvest_fits);
+      end_value = (c.sheet_length-length.ensures, c.if-out-length.false);
+    }
 
 pub returns : goal.returns
 returns c = search writes_length
