@@ -1,0 +1,14 @@
+-- The loop keeps: the sum is the harvest of the slots before i.
+use Prim.Native.Nat.{◌≤◌, ◌+◌, ◌-◌, ◌*◌}
+use mathlib.Core.Path.{◌≡◌, sym, ap, ap₂, ◌∙◌}
+use native.Mathlib.Omega.{arith}
+use Rattle.sheet.specs.Sums.{harvest_of}
+use Rattle.sheet.proofs.Sums.{harvest_none, harvest_to}
+use borrow.Author.Rules.{rules}
+use Rattle.judge.proofs.harvest_of.Given as goal
+
+abbrev pub invariant-loop-i : goal.invariant-loop-i
+invariant-loop-i l = (l.from ≤ l.i) × (l.i ≤ l.to) × (l.sum ≡ harvest_of l.harvest l.from l.i) × (l.sum ≤ 255 * l.i)
+
+abbrev pub decreases-loop-i : goal.decreases-loop-i
+decreases-loop-i l = l.to - l.i
