@@ -1,0 +1,6 @@
+-- A job of a table that was read has a deadline.
+use borrow.Author.Rules.{rules}
+use Rattle.judge_words.proofs.job_of.Goals as goal
+
+pub returns : goal.returns
+returns c = c.requires.0.windows _ c.requires.1
