@@ -1,6 +1,8 @@
 // The program's arguments: words, kinds and numbers.
-ghost use Rattle.std.specs.Prelude.{◌≡◌, min, ◌+◌, ◌*◌};
+ghost use Rattle.std.specs.Prelude.{◌≡◌, ◌≤◌, length, min, ◌+◌, ◌*◌};
 ghost use Rattle.evidence.specs.Decimal.{largest, is_digit, number_in};
+
+use std::env::{Env, FillError};
 
 // The longest argument that Linux hands to a program, in bytes.
 pub const LONGEST: usize = 131072;
@@ -13,11 +15,43 @@ pub enum Number {
     Nothing,
 }
 
+// More arguments than any use of the program has.
+const TOO_MANY: usize = 7;
+
+// Whether there is an argument at a place.
+fn is_there(rt: &impl Env, place: usize) -> bool {
+    let mut text = [0u8; 1];
+    match rt.arg(place, &mut text) {
+        Err(FillError::NotPresent) => false,
+        _ => true,
+    }
+}
+
+// How many arguments the program was started with, its own name among them; 7 where there are more.
+pub fn count(rt: &impl Env) -> usize {
+    for place in 0..TOO_MANY {
+        if !is_there(rt, place) {
+            return place;
+        }
+    }
+    TOO_MANY
+}
+
+// Puts the argument at a place to the front of the text, and answers its length; 0 where there is none.
+pub fn read(rt: &impl Env, place: usize, text: &mut [u8]) -> usize
+    ensures { result ≤ length text.new }
+{
+    match rt.arg(place, text) {
+        Ok(length) => length,
+        Err(_) => 0,
+    }
+}
+
 // Whether the argument at a place is this word.
-pub fn is_word(place: usize, word: &[u8]) -> bool {
+pub fn is_word(rt: &impl Env, place: usize, word: &[u8]) -> bool {
     let mut text = [0u8; LONGEST];
-    let length = os::arg(place, &mut text);
-    check::same(&text[..length], word)
+    let length = read(rt, place, &mut text);
+    &text[..length] == word
 }
 
 // Whether a byte is a decimal digit.
@@ -60,19 +94,19 @@ fn decimal(text: &[u8]) -> Number
 }
 
 // The number in the argument at a place.
-pub fn number_at(place: usize) -> Number {
+pub fn number_at(rt: &impl Env, place: usize) -> Number {
     let mut text = [0u8; LONGEST];
-    let length = os::arg(place, &mut text);
+    let length = read(rt, place, &mut text);
     decimal(&text[..length])
 }
 
 // The number of the kind in the argument at a place: `time`, `energy` or a number.
-pub fn kind_at(place: usize) -> Number {
-    if is_word(place, b"time") {
+pub fn kind_at(rt: &impl Env, place: usize) -> Number {
+    if is_word(rt, place, b"time") {
         return Number::Is(judge::TIME);
     }
-    if is_word(place, b"energy") {
+    if is_word(rt, place, b"energy") {
         return Number::Is(judge::ENERGY);
     }
-    number_at(place)
+    number_at(rt, place)
 }

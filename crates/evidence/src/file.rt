@@ -3,6 +3,10 @@ ghost use Rattle.std.specs.Prelude.{◌≤◌, length};
 ghost use Rattle.evidence.specs.Content.{Fits};
 
 use crate::argument;
+use std::env::Env;
+use std::fs::{File, Files};
+use std::io::Read;
+use std::str;
 
 // The longest file that is taken for a sheet or a plan, in bytes.
 const LONGEST: usize = 4096;
@@ -27,18 +31,23 @@ struct Got {
 }
 
 // Reads once.
-fn read_once(file: i32, room: &mut [u8]) -> Got
+fn read_once(file: &mut impl Read, room: &mut [u8]) -> Got
     ensures { result.count ≤ length room.new }
 {
-    let got = libc::read(file, room);
-    Got {
-        count: io::count(got, room),
-        failed: got < 0,
+    match file.read(room) {
+        Ok(count) => Got {
+            count,
+            failed: false,
+        },
+        Err(_) => Got {
+            count: 0,
+            failed: true,
+        },
     }
 }
 
 // Reads until the room is full, the file ends or a read fails.
-fn read_on(file: i32, room: &mut [u8]) -> Got
+fn read_on(file: &mut impl Read, room: &mut [u8]) -> Got
     ensures { result.count ≤ length room.new }
 {
     let mut count = 0;
@@ -66,16 +75,18 @@ fn print_name(why: &[u8], name: &[u8]) {
 }
 
 // The content of the file of that name.
-fn read_named(name: &[u8], room: &mut [u8; ROOM]) -> Content
+fn read_named(rt: &impl Files, name: &[u8], room: &mut [u8; ROOM]) -> Content
     ensures { Fits result room.new }
 {
-    let file = os::open_read(name);
-    if file < 0 {
+    let Ok(path) = str::from_utf8(name) else {
         print_name(b"cannot read ", name);
         return Content::Nothing;
-    }
-    let got = read_on(file, room);
-    libc::close(file);
+    };
+    let Ok(mut file) = File::open(rt, path) else {
+        print_name(b"cannot read ", name);
+        return Content::Nothing;
+    };
+    let got = read_on(&mut file, room);
     if got.failed {
         print_name(b"cannot read ", name);
         return Content::Nothing;
@@ -89,10 +100,10 @@ fn read_named(name: &[u8], room: &mut [u8; ROOM]) -> Content
 
 // The content of the file that the argument at a place names, in the room that is lent. Where there
 // is none a line says why.
-pub fn read(place: usize, room: &mut [u8; ROOM]) -> Content
+pub fn read<R: Env + Files>(rt: &R, place: usize, room: &mut [u8; ROOM]) -> Content
     ensures { Fits result room.new }
 {
     let mut name = [0u8; argument::LONGEST];
-    let length = os::arg(place, &mut name);
-    read_named(&name[..length], room)
+    let length = argument::read(rt, place, &mut name);
+    read_named(rt, &name[..length], room)
 }

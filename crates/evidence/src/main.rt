@@ -12,6 +12,8 @@ mod file;
 
 use argument::Number;
 use file::Content;
+use std::env::Env;
+use std::fs::Files;
 
 // The places of the arguments; the program's own name stands at 0.
 const SHEET: usize = 1;
@@ -36,50 +38,50 @@ fn print_usage() {
 }
 
 // Judges a plan.
-fn judge_plan() {
+fn judge_plan<R: Env + Files>(rt: &R) {
     let mut sheet = [0u8; file::ROOM];
-    let Content::Bytes(length) = file::read(SHEET, &mut sheet) else {
+    let Content::Bytes(length) = file::read(rt, SHEET, &mut sheet) else {
         return;
     };
     let mut plan = [0u8; file::ROOM];
-    let Content::Bytes(slots) = file::read(PLAN, &mut plan) else {
+    let Content::Bytes(slots) = file::read(rt, PLAN, &mut plan) else {
         return;
     };
     judge_words::print_plan(&sheet[..length], &plan[..slots]);
 }
 
 // Judges a claim of that kind, start and end.
-fn judge_claim(kind: u64, start: u64, end: u64) {
+fn judge_claim<R: Env + Files>(rt: &R, kind: u64, start: u64, end: u64) {
     let mut sheet = [0u8; file::ROOM];
-    let Content::Bytes(length) = file::read(SHEET, &mut sheet) else {
+    let Content::Bytes(length) = file::read(rt, SHEET, &mut sheet) else {
         return;
     };
     judge_words::print_claim(&sheet[..length], kind, start, end);
 }
 
 // Judges a claim where its arguments are a kind and two numbers.
-fn judge_claimed() {
-    let Number::Is(kind) = argument::kind_at(KIND) else {
+fn judge_claimed<R: Env + Files>(rt: &R) {
+    let Number::Is(kind) = argument::kind_at(rt, KIND) else {
         print_usage();
         return;
     };
-    let Number::Is(start) = argument::number_at(START) else {
+    let Number::Is(start) = argument::number_at(rt, START) else {
         print_usage();
         return;
     };
-    let Number::Is(end) = argument::number_at(END) else {
+    let Number::Is(end) = argument::number_at(rt, END) else {
         print_usage();
         return;
     };
-    judge_claim(kind, start, end);
+    judge_claim(rt, kind, start, end);
 }
 
-fn main() {
-    let count = os::arg_count();
-    if count == WITH_PLAN && argument::is_word(EVIDENCE, b"plan") {
-        judge_plan();
-    } else if count == WITH_CLAIM && argument::is_word(EVIDENCE, b"claim") {
-        judge_claimed();
+fn main(rt: HostRuntime) {
+    let count = argument::count(&rt);
+    if count == WITH_PLAN && argument::is_word(&rt, EVIDENCE, b"plan") {
+        judge_plan(&rt);
+    } else if count == WITH_CLAIM && argument::is_word(&rt, EVIDENCE, b"claim") {
+        judge_claimed(&rt);
     } else {
         print_usage();
     }
