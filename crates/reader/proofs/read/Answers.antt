@@ -9,11 +9,10 @@ pub returns-in-Refused : goal.returns-in-Refused
 returns-in-Refused c = search record_refuses
 
 pub loop-k-preserved : goal.loop-k-preserved
-loop-k-preserved c =
-    (
-      search rules,
-      read_more _ _ _ _ c.job_in-job.ensures _ c.check_record-answer.ensures _ c.loop-k.invariant.1 c.in_default.is (search rules),
-    )
+loop-k-preserved c = (
+  search rules,
+  read_more _ _ _ _ c.job_in-job.ensures _ c.check_record-answer.ensures _ c.loop-k.invariant.1 c.in_default.is (search rules),
+)
 
 pub returns : goal.returns
 returns c = records_good _ _ c.read_trailer-trailer.ensures _ _ c.loop-k.invariant.1 (omega arith)

@@ -21,14 +21,13 @@ returns-in-Refused c =
     (says_refuses _ _ _ c.in-Refused.is said))
 
 pub loop-k-preserved : goal.loop-k-preserved
-loop-k-preserved c =
-    (
-      refl,
-      refl,
-      search rules,
-      in_order_clear (record_is c.args.t) c.loop-k.k c.loop-k.invariant.3
-          (says_gives _ _ c.in_default.is c.check_record-answer.ensures),
-    )
+loop-k-preserved c = (
+  refl,
+  refl,
+  search rules,
+  in_order_clear (record_is c.args.t) c.loop-k.k c.loop-k.invariant.3
+      (says_gives _ _ c.in_default.is c.check_record-answer.ensures),
+)
 
 pub returns : goal.returns
 returns c =
