@@ -7,7 +7,6 @@ use Rattle.sheet.specs.Paper.{gives}
 use Rattle.sheet.specs.Refusals.{outcome_says}
 use Rattle.sheet.specs.declared.Refusal.{Refusal}
 use Rattle.sheet.specs.declared.Outcome.{Outcome}
-use Rattle.sheet.specs.declared.Outcome.TheVariants as Outcome
 use Rattle.sheet.proofs.HandedIn.{hands_on}
 use Rattle.sheet.proofs.Order.{where_given_lem, where_refused}
 use Rattle.sheet.proofs.Refusals.{says_refuses, says_gives}

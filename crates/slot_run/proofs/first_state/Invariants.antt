@@ -1,12 +1,8 @@
 -- The loop keeps: the jobs before k want all their slots, and zeros stand in the other places.
 use Prim.Native.Nat.{◌≤◌, ◌-◌}
-use mathlib.Core.Path.{◌≡◌, refl, sym}
-use native.Mathlib.Omega.{arith}
+use mathlib.Core.Path.{◌≡◌}
 use Rattle.sheet.specs.Lists.{filled}
 use Rattle.sheet.specs.Table.{most_jobs, job_of}
-use Rattle.sheet.proofs.Lists.{filled_none, filled_more}
-use Rattle.slot_run.specs.Run.{first_state}
-use borrow.Author.Rules.{rules}
 use Rattle.slot_run.proofs.first_state.Given as goal
 
 abbrev pub invariant-loop-k : goal.invariant-loop-k

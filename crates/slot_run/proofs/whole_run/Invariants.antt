@@ -1,14 +1,8 @@
 -- The loop keeps what a run keeps; in its body n is a slot of the day and the state's, so what is lent shows the day.
-use Prim.Native.Nat.{◌≤◌, ◌<◌, ◌-◌}
-use mathlib.Core.Path.{◌≡◌, refl, sym, ap, ◌∙◌}
-use native.Mathlib.Omega.{arith}
+use Prim.Native.Nat.{◌-◌}
 use lib.ListN.{length}
-use Rattle.sheet.specs.Table.{most_slots, Day, day_of}
-use Rattle.choice.specs.declared.State.{State}
-use Rattle.slot_run.specs.Run.{plan_byte}
-use Rattle.slot_run.proofs.Lending.{shows}
-use Rattle.slot_run.proofs.Running.{small_byte, state_slot, RunTo, run_none, run_more, run_all}
-use borrow.Author.Rules.{rules}
+use Rattle.sheet.specs.Table.{day_of}
+use Rattle.slot_run.proofs.Running.{RunTo}
 use Rattle.slot_run.proofs.whole_run.Given as goal
 
 abbrev pub invariant-loop-n : goal.invariant-loop-n

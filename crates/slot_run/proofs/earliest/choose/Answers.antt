@@ -3,7 +3,6 @@ use mathlib.Core.Path.{sym, ◌∙◌}
 use mathlib.Core.Bool.{true}
 use Rattle.choice.specs.Choosing.{ready, chosen}
 use Rattle.slot_run.proofs.Lending.{earliest_read}
-use borrow.Author.Rules.{rules}
 use Rattle.slot_run.proofs.earliest.choose.Goals as goal
 
 pub returns : goal.returns

@@ -1,12 +1,8 @@
 -- The loop keeps: what is held is the choice among the jobs before k.
 use Prim.Native.Nat.{◌≤◌, ◌-◌}
-use mathlib.Core.Path.{◌≡◌, sym, ap, ◌∙◌}
-use mathlib.Core.Logic.{⊎_elim}
-use native.Mathlib.Omega.{arith}
+use mathlib.Core.Path.{◌≡◌}
 use Rattle.choice.specs.Choosing.{earliest}
 use Rattle.slot_run.specs.Steps.{passes_in, deadline_in}
-use Rattle.choice.proofs.Choosing.{earliest_none, earliest_passes, earliest_fails}
-use borrow.Author.Rules.{rules}
 use Rattle.slot_run.proofs.earliest.earliest_job.Given as goal
 
 abbrev pub invariant-loop-k : goal.invariant-loop-k

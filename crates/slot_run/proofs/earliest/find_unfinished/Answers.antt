@@ -7,7 +7,6 @@ use lib.Dec.{ltb}
 use lib.ListN.{get_or}
 use Rattle.choice.specs.Choosing.{earliest, deadline_of, unfinished}
 use Rattle.slot_run.proofs.Lending.{earliest_read}
-use borrow.Author.Rules.{rules}
 use Rattle.slot_run.proofs.earliest.find_unfinished.Goals as goal
 
 pub returns : goal.returns

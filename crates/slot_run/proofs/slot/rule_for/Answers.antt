@@ -1,6 +1,5 @@
 -- Each return goes by what was asked and answered before it.
-use Rattle.slot_run.proofs.Deciding.{by_rules, rules_settled}
-use borrow.Author.Rules.{rules}
+use Rattle.slot_run.proofs.Deciding.{by_rules}
 use Rattle.slot_run.proofs.slot.rule_for.Goals as goal
 
 pub returns-then-settles : goal.returns-then-settles

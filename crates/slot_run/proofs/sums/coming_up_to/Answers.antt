@@ -1,16 +1,13 @@
 -- The loop keeps: the sum is that of the jobs before i, for whatever day is shown. Energies are bytes, so no cost and no sum goes astray.
-use Prim.Native.Nat.{◌≤◌, ◌-◌, ◌*◌}
-use mathlib.Core.Path.{◌≡◌, sym, ◌∙◌}
+use mathlib.Core.Path.{sym, ◌∙◌}
 use mathlib.Core.List.{[]}
 use native.Mathlib.Omega.{arith}
-use Rattle.sheet.specs.Sums.{total, most_cost}
-use Rattle.sheet.specs.Table.{Day}
 use Rattle.sheet.proofs.Sums.{total_none}
 use Rattle.slacks.specs.Slack.{coming}
-use Rattle.slot_run.specs.Steps.{state_of, Shown}
+use Rattle.slot_run.specs.Steps.{state_of}
 use Rattle.slot_run.proofs.Deciding.{sum_more, sum_all}
 use Rattle.slot_run.proofs.Lending.{reads}
-use Rattle.slacks.proofs.SlackTests.{coming_part, coming_read}
+use Rattle.slacks.proofs.SlackTests.{coming_read}
 use borrow.Author.Rules.{rules}
 use Rattle.slot_run.proofs.sums.coming_up_to.Goals as goal
 
@@ -32,6 +29,3 @@ returns c = (sum_all _ _ _ _ c.loop-i.invariant.2 (λ d w. omega (arith, w.1.cou
 
 pub loop-i-init : goal.loop-i-init
 loop-i-init c = (search rules, search rules, λ d w. sym (total_none _))
-
-pub overflow_cast-jobs : goal.overflow_cast-jobs
-overflow_cast-jobs c = let small = c.requires.1.1.columns.small c.loop-i.i in omega arith

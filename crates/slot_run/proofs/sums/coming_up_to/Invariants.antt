@@ -1,17 +1,11 @@
 -- The loop keeps: the sum is that of the jobs before i, for whatever day is shown. Energies are bytes, so no cost and no sum goes astray.
 use Prim.Native.Nat.{◌≤◌, ◌-◌, ◌*◌}
-use mathlib.Core.Path.{◌≡◌, sym, ◌∙◌}
+use mathlib.Core.Path.{◌≡◌}
 use mathlib.Core.List.{[]}
-use native.Mathlib.Omega.{arith}
 use Rattle.sheet.specs.Sums.{total, most_cost}
 use Rattle.sheet.specs.Table.{Day}
-use Rattle.sheet.proofs.Sums.{total_none}
-use Rattle.slacks.specs.Slack.{coming}
 use Rattle.slot_run.specs.Steps.{state_of, Shown}
-use Rattle.slot_run.proofs.Deciding.{sum_more, sum_all}
-use Rattle.slot_run.proofs.Lending.{reads}
-use Rattle.slacks.proofs.SlackTests.{coming_part, coming_read}
-use borrow.Author.Rules.{rules}
+use Rattle.slacks.proofs.SlackTests.{coming_part}
 use Rattle.slot_run.proofs.sums.coming_up_to.Given as goal
 
 abbrev pub invariant-loop-i : goal.invariant-loop-i

@@ -1,17 +1,13 @@
 -- The loop keeps: no job before k lacks the charge, for whatever day is shown.
 use Prim.Native.Nat.{◌≤◌, ◌-◌}
-use mathlib.Core.Path.{◌≡◌, ◌∙◌}
+use mathlib.Core.Path.{◌≡◌}
 use mathlib.Core.Bool.{false}
 use mathlib.Core.List.{[]}
-use native.Mathlib.Omega.{arith}
 use Rattle.sheet.specs.Sums.{some}
 use Rattle.sheet.specs.Table.{job_of, Day}
-use Rattle.sheet.proofs.Sums.{some_none}
 use Rattle.choice.specs.Choosing.{deadline_of}
 use Rattle.slot_run.specs.Steps.{state_of, Shows}
-use Rattle.slot_run.proofs.Deciding.{none_more, none_all, one_here}
-use Rattle.slacks.proofs.SlackTests.{saves_by, saving_by}
-use borrow.Author.Rules.{rules}
+use Rattle.slacks.proofs.SlackTests.{saves_by}
 use Rattle.slot_run.proofs.sums.needs_charge.Given as goal
 
 abbrev pub invariant-loop-k : goal.invariant-loop-k

@@ -1,15 +1,12 @@
 -- The loop keeps: the sum is that of the jobs before i, for whatever day is shown.
-use Prim.Native.Nat.{◌≤◌, ◌-◌, ◌*◌}
-use mathlib.Core.Path.{◌≡◌, sym}
+use mathlib.Core.Path.{sym}
 use native.Mathlib.Omega.{arith}
-use Rattle.sheet.specs.Sums.{total}
-use Rattle.sheet.specs.Table.{Day}
 use Rattle.sheet.proofs.Sums.{total_none}
 use Rattle.slacks.specs.Slack.{pending}
-use Rattle.slot_run.specs.Steps.{state_of, Shown}
+use Rattle.slot_run.specs.Steps.{state_of}
 use Rattle.slot_run.proofs.Deciding.{sum_more, sum_all}
 use Rattle.slot_run.proofs.Lending.{reads}
-use Rattle.slacks.proofs.SlackTests.{pending_part, pending_read}
+use Rattle.slacks.proofs.SlackTests.{pending_read}
 use borrow.Author.Rules.{rules}
 use Rattle.slot_run.proofs.sums.pending_up_to.Goals as goal
 

@@ -1,16 +1,10 @@
 -- The loop keeps: the sum is that of the jobs before i, for whatever day is shown.
 use Prim.Native.Nat.{◌≤◌, ◌-◌, ◌*◌}
-use mathlib.Core.Path.{◌≡◌, sym}
-use native.Mathlib.Omega.{arith}
+use mathlib.Core.Path.{◌≡◌}
 use Rattle.sheet.specs.Sums.{total}
 use Rattle.sheet.specs.Table.{Day}
-use Rattle.sheet.proofs.Sums.{total_none}
-use Rattle.slacks.specs.Slack.{pending}
 use Rattle.slot_run.specs.Steps.{state_of, Shown}
-use Rattle.slot_run.proofs.Deciding.{sum_more, sum_all}
-use Rattle.slot_run.proofs.Lending.{reads}
-use Rattle.slacks.proofs.SlackTests.{pending_part, pending_read}
-use borrow.Author.Rules.{rules}
+use Rattle.slacks.proofs.SlackTests.{pending_part}
 use Rattle.slot_run.proofs.sums.pending_up_to.Given as goal
 
 abbrev pub invariant-loop-i : goal.invariant-loop-i
