@@ -17,7 +17,6 @@ use Rattle.demand.specs.Search.{interval_of, is_release, is_deadline, found_at, 
 use Rattle.interval.specs.declared.Kind.{Kind}
 use Rattle.interval.specs.declared.Kind.TheVariants.{Time, Energy}
 use Rattle.demand.specs.declared.Found.{Found}
-use Rattle.demand.specs.declared.Found.TheVariants as Found
 use Rattle.demand.specs.declared.Overload.{Overload}
 
 -- ---- a job's release and a job's deadline

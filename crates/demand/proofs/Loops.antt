@@ -23,7 +23,6 @@ use Rattle.demand.specs.Steps.{due_at, most_due, DueBy, NextDeadline}
 use Rattle.interval.specs.declared.Kind.{Kind}
 use Rattle.interval.specs.declared.Kind.TheVariants.{Time, Energy}
 use Rattle.demand.specs.declared.Found.{Found}
-use Rattle.demand.specs.declared.Found.TheVariants as Found
 use Rattle.demand.specs.declared.Overload.{Overload}
 use Rattle.demand.proofs.Findings.{release_exactly, deadline_exactly, start_at}
 

@@ -19,10 +19,8 @@ use Rattle.demand.specs.Search.{Interval, overload_says, Answer, overloaded_is, 
 use Rattle.interval.specs.declared.Kind.{Kind}
 use Rattle.interval.specs.declared.Kind.TheVariants.{Time, Energy}
 use Rattle.demand.specs.declared.Found.{Found}
-use Rattle.demand.specs.declared.Found.TheVariants as Found
 use Rattle.demand.specs.declared.Overload.{Overload}
 use Rattle.demand.specs.declared.Searched.{Searched}
-use Rattle.demand.specs.declared.Searched.TheVariants as Searched
 use Rattle.demand.proofs.Findings.{release_exactly, deadline_exactly, found_or_not, interval_when, found_between, start_clear, latest_finds, tried_clear, smallest_finds}
 use Rattle.demand.proofs.Shrinking.{inner_clear}
 

@@ -11,7 +11,6 @@ use Rattle.interval.specs.declared.Kind.{Kind}
 use Rattle.interval.specs.declared.Kind.TheVariants.{Time, Energy}
 use Rattle.demand.specs.declared.Overload.{Overload}
 use Rattle.demand.specs.declared.Found.{Found}
-use Rattle.demand.specs.declared.Found.TheVariants as Found
 use Rattle.demand.specs.declared.Searched.{Searched}
 use Rattle.demand.specs.declared.Searched.TheVariants.{Refused, Overloaded, Clear}
 

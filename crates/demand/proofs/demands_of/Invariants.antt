@@ -1,16 +1,10 @@
 -- The loop keeps the demands of the jobs before i.
 use Prim.Native.Nat.{ℕ, ◌-◌, ◌*◌, ◌≤◌}
-use mathlib.Core.Path.{◌≡◌, sym}
-use native.Mathlib.Omega.{arith}
-use lib.ListN.{get_or}
+use mathlib.Core.Path.{◌≡◌}
 use Rattle.sheet.specs.Sums.{most_cost}
-use Rattle.sheet.proofs.Sums.{total_none}
-use Rattle.interval.specs.Demand.{demand_of}
-use Rattle.demand.specs.Steps.{due_at, most_due, DueBy}
-use Rattle.interval.specs.declared.Kind.{Kind}
+use Rattle.demand.specs.Steps.{DueBy}
 use Rattle.interval.specs.declared.Kind.TheVariants.{Time, Energy}
-use Rattle.demand.proofs.Loops.{demand_up_to, demand_more}
-use borrow.Author.Rules.{rules}
+use Rattle.demand.proofs.Loops.{demand_up_to}
 use Rattle.demand.proofs.demands_of.Given as goal
 
 abbrev pub invariant-loop-i : goal.invariant-loop-i

@@ -1,16 +1,13 @@
 -- The loop keeps: `to` is the next deadline after a slot up to which nothing is found.
 use Prim.Native.Nat.{ℕ, ◌+◌, ◌-◌}
-use mathlib.Core.Path.{◌≡◌, refl, sym, ◌∙◌}
+use mathlib.Core.Path.{◌≡◌}
 use mathlib.Core.List.{List}
-use native.Mathlib.Omega.{arith}
 use lib.ListN.{length}
 use Rattle.sheet.specs.Table.{day_of}
 use Rattle.totals.specs.Totals.{Summed}
 use Rattle.demand.specs.Search.{smallest_end}
-use Rattle.demand.specs.Steps.{Lent, NextDeadline}
+use Rattle.demand.specs.Steps.{NextDeadline}
 use Rattle.demand.specs.declared.Found.TheVariants as Found
-use Rattle.demand.proofs.Loops.{ends_first, ends_next, ends_stay, ends_none}
-use borrow.Author.Rules.{rules}
 use Rattle.demand.proofs.first_overload.Given as goal
 
 abbrev pub invariant-loop-to : goal.invariant-loop-to

@@ -5,7 +5,6 @@ use mathlib.Core.List.{List}
 use native.Mathlib.Omega.{arith}
 use lib.ListN.{get_or}
 use borrow.Author.Tests.{lt-ltb, le-ltb}
-use borrow.Author.Rules.{rules}
 use Rattle.sheet.specs.Table.{Day, day_of}
 use Rattle.totals.proofs.Entries.{harvest_read_lem}
 use Rattle.interval.specs.Demand.{demand_of, supply_of, overloaded}
@@ -13,15 +12,11 @@ use Rattle.demand.specs.Search.{found_at}
 use Rattle.demand.specs.Steps.{Lent}
 use Rattle.demand.specs.declared.Found.TheVariants as Found
 use Rattle.interval.specs.declared.Kind.TheVariants.{Time, Energy}
-use Rattle.demand.proofs.found_at.Goals.{After-supply-2-1, Start}
+use Rattle.demand.proofs.found_at.Goals.{After-wide}
 use Rattle.demand.proofs.found_at.Goals as goal
 
--- an entry of the totals is at most that of a later slot
-grows : (c : Start) → get_or c.args.totals.now c.args.from 0 ≤ get_or c.args.totals.now c.args.to 0
-grows c = let read = harvest_read_lem _ _ c.requires.3.1.summed c.args.from c.args.to (omega arith) c.requires.1 in omega arith
-
 -- the demands and the supplies of both kinds
-own : (c : After-supply-2-1) (harvest : List ℕ)
+own : (c : After-wide) (harvest : List ℕ)
     → let d = day_of c.args.t harvest in
     let from = c.args.from in
     let to = c.args.to in
@@ -51,26 +46,19 @@ module _ (d : Day) (from to time slots energy supply : ℕ) (time-is : time ≡ 
   unfolding found_at overloaded
   in_neither h l = rw (← time-is, ← slots_are, ← energy-is, ← supply_is, le-ltb _ _ h, le-ltb _ _ l)
 
-pub overflow_add-supply : goal.overflow_add-supply
-overflow_add-supply c =
-    let small = c.requires.3.1.summed.totals_are.small c.args.to in
-    omega arith
+pub overflow_sub-supply : goal.overflow_sub-supply
+overflow_sub-supply c = let read = harvest_read_lem _ _ c.requires.3.1.summed c.args.from c.args.to (omega arith) c.requires.1 in omega arith
 
 pub returns-then-slots-sums : goal.returns-then-slots-sums
-returns-then-slots-sums c harvest lent = let is = own (goal.at.returns-then-slots-sums c).After-supply-2-1 harvest lent in in_time _ _ _ _ _ _ _ is.0 is.1 is.2 is.3 c.if-slots-sums.true
+returns-then-slots-sums c harvest lent =
+    let is = own (goal.at.returns-then-slots-sums c).After-wide harvest lent in in_time _ _ _ _ _ _ _ is.0 is.1 is.2 is.3 c.if-slots-sums.true
 
 pub returns-then-supply-sums : goal.returns-then-supply-sums
 returns-then-supply-sums c harvest lent =
-    let is = own (goal.at.returns-then-supply-sums c).After-supply-2-1 harvest lent in
+    let is = own (goal.at.returns-then-supply-sums c).After-wide harvest lent in
     in_energy _ _ _ _ _ _ _ is.0 is.1 is.2 is.3 c.if-slots-sums.false c.if-supply-sums.true
 
 pub returns : goal.returns
 returns c harvest lent =
-    let is = own (goal.at.returns c).After-supply-2-1 harvest lent in
+    let is = own (goal.at.returns c).After-wide harvest lent in
     in_neither _ _ _ _ _ _ _ is.0 is.1 is.2 is.3 c.if-slots-sums.false c.if-supply-sums.false
-
-pub demands_of-sums-requires : goal.demands_of-sums-requires
-demands_of-sums-requires c = let lent = c.requires.3.1 in (lent.summed.good.few_jobs, lent.columns_are, (_, c.requires.2))
-
-pub overflow_sub-supply : goal.overflow_sub-supply
-overflow_sub-supply c = let grow = grows (goal.at.overflow_sub-supply c).After-demands_of-sums in omega arith

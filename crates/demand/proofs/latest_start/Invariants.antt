@@ -1,15 +1,9 @@
 -- The loop keeps: what is found so far has the latest start among the releases of the jobs before k.
-use Prim.Native.Nat.{ℕ, ◌-◌, ◌≤◌, ◌<◌}
-use mathlib.Core.Path.{◌≡◌, sym, ◌∙◌}
+use Prim.Native.Nat.{ℕ, ◌-◌, ◌≤◌}
 use mathlib.Core.List.{List}
-use mathlib.Core.Logic.{⊎_elim}
-use native.Mathlib.Omega.{arith}
-use lib.ListN.{get_or}
-use borrow.Author.Tests.{ltb-true, ltb-false}
 use Rattle.sheet.specs.Table.{day_of}
 use Rattle.demand.specs.Steps.{Lent}
-use Rattle.demand.proofs.Loops.{LatestSoFar, latest_first, latest_stays, latest_moves, latest_found}
-use borrow.Author.Rules.{rules}
+use Rattle.demand.proofs.Loops.{LatestSoFar}
 use Rattle.demand.proofs.latest_start.Given as goal
 
 abbrev pub invariant-loop-k : goal.invariant-loop-k

@@ -1,12 +1,6 @@
 -- The loop keeps: `next` is the first deadline after the slot among the jobs before k.
 use Prim.Native.Nat.{◌≤◌, ◌-◌}
-use mathlib.Core.Path.{◌≡◌}
-use mathlib.Core.Logic.{⊎_elim}
-use borrow.Author.Tests.{ltb-true, ltb-false}
-use native.Mathlib.Omega.{arith}
 use Rattle.demand.specs.Steps.{NextDeadline}
-use Rattle.demand.proofs.Loops.{next_none, next_stays, next_moves}
-use borrow.Author.Rules.{rules}
 use Rattle.demand.proofs.next_deadline.Given as goal
 
 abbrev pub invariant-loop-k : goal.invariant-loop-k

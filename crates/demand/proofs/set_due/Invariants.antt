@@ -1,12 +1,6 @@
 -- The loop keeps: what is due of the jobs before k is set.
-use Prim.Native.Nat.{ℕ, ◌-◌, ◌*◌, ◌≤◌}
-use mathlib.Core.Path.{◌≡◌, ap₂, ◌∙◌}
-use mathlib.Core.Bool.{cond}
-use native.Mathlib.Omega.{arith}
-use lib.Dec.{leb}
+use Prim.Native.Nat.{◌-◌, ◌≤◌}
 use Rattle.demand.specs.Steps.{DueBy}
-use Rattle.demand.proofs.Loops.{due_none, due_more}
-use borrow.Author.Rules.{rules}
 use Rattle.demand.proofs.set_due.Given as goal
 
 abbrev pub invariant-loop-k : goal.invariant-loop-k
