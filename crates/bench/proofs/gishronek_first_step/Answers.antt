@@ -12,8 +12,7 @@ use Rattle.choice.specs.declared.State.{State}
 use Rattle.slot_run.specs.declared.StepResult.{StepResult}
 use Rattle.bench.specs.Promise.{start_of, FirstSteps}
 use Rattle.bench.proofs.Yielded.{handed_whole}
-use Rattle.bench.proofs.gishronek_first_step.Statement.{statement}
-use Rattle.bench.proofs.gishronek_first_step.Tie as tie
+use Rattle.bench.proofs.gishronek_first_step.Goals as goal
 
 stepped : (s : List ℕ) (t : Table) (harvest : List ℕ) (start : Start) (step : StepResult)
     → t ≡ table_read s
@@ -27,10 +26,5 @@ stepped s t harvest start step read stretch starts steps =
     ∙ ap (state_after (on_table t harvest)) starts.state
     ∙ ap (λ (h : HandedIn). state_after h (start_of h)) (handed_whole s t harvest read stretch))
 
-returns : tie.Need-returns
+pub returns : goal.returns
 returns c = search stepped
-
-pub gishronek_first_step_spec : {M : Type 1} → statement M
-gishronek_first_step_spec =
-    tie.close
-    (tie.spec (λ c κs. search rules) (λ c κs. search rules) (λ c κs. search rules) (λ c κs. search rules) (λ c. search rules) returns)

@@ -10,8 +10,7 @@ use Rattle.demand.specs.Search.{searched_says, search_of, Searches}
 use Rattle.demand.specs.declared.Searched.{Searched}
 use Rattle.bench.specs.Promise.{numbered, answer_number, refused_number, SearchesYielded}
 use Rattle.bench.proofs.Yielded.{handed_whole}
-use Rattle.bench.proofs.gishronek_search.Statement.{statement}
-use Rattle.bench.proofs.gishronek_search.Tie as tie
+use Rattle.bench.proofs.gishronek_search.Goals as goal
 
 searched : (s : List ℕ) (t : Table) (harvest : List ℕ) (a : Searched) (r : ℕ)
     → t ≡ table_read s
@@ -22,10 +21,5 @@ searched : (s : List ℕ) (t : Table) (harvest : List ℕ) (a : Searched) (r : �
 searched s t harvest a r read stretch found said =
     said ∙ ap (numbered answer_number refused_number) (found.answer ∙ ap search_of (handed_whole s t harvest read stretch))
 
-returns : tie.Need-returns
+pub returns : goal.returns
 returns c = search searched
-
-pub gishronek_search_spec : {M : Type 1} → statement M
-gishronek_search_spec =
-    tie.close
-    (tie.spec (λ c κs. search rules) (λ c κs. search rules) (λ c κs. search rules) (λ c κs. search rules) returns)

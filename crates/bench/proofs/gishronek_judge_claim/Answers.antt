@@ -10,16 +10,11 @@ use Rattle.judge.specs.Promise.{JudgesClaim}
 use Rattle.judge.specs.declared.JudgedClaim.{JudgedClaim}
 use Rattle.bench.specs.Promise.{check_number, sums_number, ClaimNumbered}
 use Rattle.bench.proofs.Numbers.{ClaimNumber}
-use Rattle.bench.proofs.gishronek_judge_claim.Statement.{statement}
-use Rattle.bench.proofs.gishronek_judge_claim.Tie as tie
+use Rattle.bench.proofs.gishronek_judge_claim.Goals as goal
 
 as_one : (s : List ℕ) (kind from to : ℕ) (a : JudgedClaim) (r : ℕ) → JudgesClaim (on_sheet s) kind from to a → ClaimNumber a r → ClaimNumbered s kind from to r
 as_one s kind from to a r judges said =
     said ∙ ap₂ (λ (c : Check) (w : Sums). check_number c + sums_number w) judges.answer judges.sums
 
-returns : tie.Need-returns
+pub returns : goal.returns
 returns c = search as_one
-
-pub gishronek_judge_claim_spec : {M : Type 1} → statement M
-gishronek_judge_claim_spec =
-    tie.close (tie.spec (λ c κs. search rules) (λ c κs. search rules) returns)

@@ -10,8 +10,7 @@ use Rattle.writer.specs.declared.Written.{Written}
 use Rattle.writer.specs.Promise.{Writes, written_says}
 use Rattle.bench.specs.Promise.{numbered, ThereAndBack}
 use Rattle.bench.proofs.Yielded.{handed_whole}
-use Rattle.bench.proofs.gishronek_there_and_back.Statement.{statement}
-use Rattle.bench.proofs.gishronek_there_and_back.Tie as tie
+use Rattle.bench.proofs.gishronek_there_and_back.Goals as goal
 
 back : (s out : List ℕ) (t : Table) (harvest : List ℕ) (w : Written) (r : ℕ) (after : List ℕ)
     → t ≡ table_read s
@@ -23,10 +22,5 @@ back s out t harvest w r after read stretch writes said =
     let own = subst (λ (h : HandedIn). Writes h out w after) (handed_whole s t harvest read stretch) writes in
     record { answer = said ∙ ap (numbered (λ n. n) 0) own.answer; buffer = own.buffer }
 
-returns : tie.Need-returns
+pub returns : goal.returns
 returns c = search back
-
-pub gishronek_there_and_back_spec : {M : Type 1} → statement M
-gishronek_there_and_back_spec =
-    tie.close
-    (tie.spec (λ c κs. search rules) (λ c κs. search rules) (λ c κs. search rules) (λ c κs. search rules) (λ c. search rules) returns)

@@ -7,15 +7,10 @@ use Rattle.sheet.specs.HandedIn.{on_sheet}
 use Rattle.judge.specs.Promise.{plan_answered, JudgesPlan}
 use Rattle.judge.specs.declared.JudgedPlan.{JudgedPlan}
 use Rattle.bench.specs.Promise.{check_number, JudgementNumbered}
-use Rattle.bench.proofs.gishronek_judge_plan.Statement.{statement}
-use Rattle.bench.proofs.gishronek_judge_plan.Tie as tie
+use Rattle.bench.proofs.gishronek_judge_plan.Goals as goal
 
 as_one : (s plan : List ℕ) (a : JudgedPlan) (r : ℕ) → JudgesPlan (on_sheet s) plan a → r ≡ check_number (plan_answered a) → JudgementNumbered s plan r
 as_one s plan a r judges said = said ∙ ap check_number judges.answer
 
-returns : tie.Need-returns
+pub returns : goal.returns
 returns c = search as_one
-
-pub gishronek_judge_plan_spec : {M : Type 1} → statement M
-gishronek_judge_plan_spec =
-    tie.close (tie.spec (λ c κs. search rules) (λ c κs. search rules) returns)
