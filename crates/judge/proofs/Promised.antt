@@ -13,7 +13,6 @@ use Rattle.sheet.specs.Sums.{harvest_of}
 use Rattle.sheet.specs.Table.{Day, day_of}
 use Rattle.sheet.specs.WellFormed.{GoodDay}
 use Rattle.sheet.specs.declared.Outcome.{Outcome}
-use Rattle.sheet.specs.declared.Outcome.TheVariants as Outcome
 use Rattle.sheet.specs.declared.Refusal.{Refusal}
 use Rattle.sheet.specs.declared.Table.{Table}
 use Rattle.sheet.proofs.HandedIn.{check_leaves, hands_on, past_check, called_there}

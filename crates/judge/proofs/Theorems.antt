@@ -9,7 +9,7 @@ use mathlib.Core.Logic.{◌↔◌, ⊎_elim}
 use native.Mathlib.Omega.{arith}
 use lib.Dec.{eqb}
 use Rattle.sheet.specs.HandedIn.{HandedIn, on_sheet, on_table, day_in, Sound, States}
-use Rattle.sheet.specs.Paper.{Check, gives, refuses, refuses_at, ◌when◌, ◌else◌, number_of}
+use Rattle.sheet.specs.Paper.{Check, gives, refuses, refuses_at, ◌when◌, number_of}
 use Rattle.sheet.specs.Refusals.{refusal_says}
 use Rattle.sheet.specs.Table.{day_of}
 use Rattle.sheet.specs.WellFormed.{GoodDay, WellFormed, SheetStates, TableStates, GivenFirst}

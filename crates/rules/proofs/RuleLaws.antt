@@ -19,7 +19,6 @@ use Rattle.rules.specs.declared.BusyWhy.{BusyWhy}
 use Rattle.rules.specs.declared.BusyWhy.TheVariants.{Full, NoSlack, Free}
 use Rattle.rules.specs.declared.IdleWhy.{IdleWhy}
 use Rattle.rules.specs.declared.IdleWhy.TheVariants.{None, Empty, Saving}
-use Rattle.rules.specs.declared.Decision.{Decision}
 use Rattle.rules.specs.declared.Decision.TheVariants.{Busy, Idle}
 use Rattle.sheet.proofs.Exactly.{either}
 use Rattle.sheet.proofs.Words.{and_right}

@@ -1,5 +1,4 @@
 -- Either test is the one that was asked for.
-use borrow.Author.Rules.{rules}
 use Rattle.choice.proofs.passes_test.Goals as goal
 
 pub returns-then-only_ready : goal.returns-then-only_ready

@@ -1,10 +1,8 @@
 -- The loop keeps: the columns hold the numbers of the jobs before k, and zeros in the other places.
 use Prim.Native.Nat.{min, ◌≤◌, ◌-◌}
-use mathlib.Core.Path.{◌≡◌, refl}
-use native.Mathlib.Omega.{arith}
+use mathlib.Core.Path.{◌≡◌}
 use Rattle.sheet.specs.Table.{most_jobs}
-use Rattle.columns.proofs.Making.{UpTo, none_yet, job_more}
-use borrow.Author.Rules.{rules}
+use Rattle.columns.proofs.Making.{UpTo}
 use Rattle.columns.proofs.by_columns.Given as goal
 
 abbrev pub invariant-loop-k : goal.invariant-loop-k

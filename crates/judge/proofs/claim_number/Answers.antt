@@ -7,7 +7,6 @@ use Rattle.sheet.specs.declared.Refusal.{Refusal}
 use Rattle.judge.specs.Promise.{claim_answered}
 use Rattle.judge.specs.declared.JudgedClaim.{JudgedClaim}
 use Rattle.judge.specs.declared.JudgedClaim.TheVariants.{Refused}
-use borrow.Author.Rules.{rules}
 use Rattle.judge.proofs.claim_number.Goals as goal
 
 refusal_numbered : (a : JudgedClaim) (why : Refusal) (n : ℕ) → a ≡ Refused why → n ≡ refusal_number why → n ≡ number_of (claim_answered a)

@@ -1,7 +1,6 @@
 -- The sheet's own refusal, or what is said of the claim on the table and harvest that stand in it.
 use Rattle.reader.proofs.Harvesting.{read_good}
 use Rattle.judge.proofs.Promised.{claim_refused_there, claim_there}
-use borrow.Author.Rules.{rules}
 use Rattle.judge.proofs.claim_on_sheet.Goals as goal
 
 pub returns-in-Refused : goal.returns-in-Refused

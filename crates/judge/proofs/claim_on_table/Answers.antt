@@ -1,7 +1,6 @@
 -- The table's own refusal, or what is said of the claim.
 use Rattle.sheet.proofs.HandedIn.{checked_table}
 use Rattle.judge.proofs.Promised.{claim_refused_here}
-use borrow.Author.Rules.{rules}
 use Rattle.judge.proofs.claim_on_table.Goals as goal
 
 pub returns-in-Refused : goal.returns-in-Refused

@@ -1,10 +1,9 @@
 -- The loop keeps: the demand is the sum of what the jobs before k add to it.
-use Prim.Native.Nat.{ℕ, ◌≤◌, ◌+◌, ◌-◌, ◌*◌}
+use Prim.Native.Nat.{ℕ, ◌+◌}
 use mathlib.Core.Path.{◌≡◌, refl, sym, ap, ap₂, ◌∙◌}
 use mathlib.Core.Bool.{Bool, true, false, cond}
-use mathlib.Core.Logic.{⊎_elim}
 use native.Mathlib.Omega.{arith}
-use Rattle.sheet.specs.Sums.{total, most_cost}
+use Rattle.sheet.specs.Sums.{total}
 use Rattle.sheet.proofs.Sums.{total_none, total_more}
 use Rattle.judge.proofs.Weighing.{part_of, part_read, demand_is}
 use borrow.Author.Rules.{rules}

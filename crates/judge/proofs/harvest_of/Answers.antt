@@ -1,5 +1,5 @@
 -- The loop keeps: the sum is the harvest of the slots before i.
-use Prim.Native.Nat.{◌≤◌, ◌+◌, ◌-◌, ◌*◌}
+use Prim.Native.Nat.{◌+◌}
 use mathlib.Core.Path.{◌≡◌, sym, ap, ap₂, ◌∙◌}
 use native.Mathlib.Omega.{arith}
 use Rattle.sheet.specs.Sums.{harvest_of}

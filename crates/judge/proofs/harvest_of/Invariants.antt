@@ -1,10 +1,7 @@
 -- The loop keeps: the sum is the harvest of the slots before i.
-use Prim.Native.Nat.{◌≤◌, ◌+◌, ◌-◌, ◌*◌}
-use mathlib.Core.Path.{◌≡◌, sym, ap, ap₂, ◌∙◌}
-use native.Mathlib.Omega.{arith}
+use Prim.Native.Nat.{◌≤◌, ◌-◌, ◌*◌}
+use mathlib.Core.Path.{◌≡◌}
 use Rattle.sheet.specs.Sums.{harvest_of}
-use Rattle.sheet.proofs.Sums.{harvest_none, harvest_to}
-use borrow.Author.Rules.{rules}
 use Rattle.judge.proofs.harvest_of.Given as goal
 
 abbrev pub invariant-loop-i : goal.invariant-loop-i

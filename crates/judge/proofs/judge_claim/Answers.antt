@@ -7,7 +7,6 @@ use Rattle.sheet.specs.Table.{day_of}
 use Rattle.judge.specs.Judge.{kind_of, claim_fault, sums_of}
 use Rattle.sheet.specs.WellFormed.{GoodDay}
 use Rattle.judge.proofs.Promised.{claim_in_day, judged_seventeen, judged_accepted, judged_eighteen}
-use borrow.Author.Rules.{rules}
 use Rattle.judge.proofs.judge_claim.Goals.{After-kind_of, After-weigh-sums}
 use Rattle.judge.proofs.judge_claim.Goals as goal
 

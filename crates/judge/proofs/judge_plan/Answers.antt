@@ -1,6 +1,5 @@
 -- 11 by the plan's length, and then what the slots say.
 use Rattle.judge.proofs.Promised.{says_eleven, says_accepted, says_fault}
-use borrow.Author.Rules.{rules}
 use Rattle.judge.proofs.judge_plan.Goals as goal
 
 pub returns-then-plan-t : goal.returns-then-plan-t

@@ -1,7 +1,6 @@
 -- The sheet's own refusal, or what is said of the plan on the table and harvest that stand in it.
 use Rattle.reader.proofs.Harvesting.{read_good}
 use Rattle.judge.proofs.Promised.{plan_refused_there, plan_there}
-use borrow.Author.Rules.{rules}
 use Rattle.judge.proofs.plan_on_sheet.Goals as goal
 
 pub returns-in-Refused : goal.returns-in-Refused

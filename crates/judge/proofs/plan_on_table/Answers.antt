@@ -1,7 +1,6 @@
 -- The table's own refusal, or what is said of the plan.
 use Rattle.sheet.proofs.HandedIn.{checked_table}
 use Rattle.judge.proofs.Promised.{plan_refused_here}
-use borrow.Author.Rules.{rules}
 use Rattle.judge.proofs.plan_on_table.Goals as goal
 
 pub returns-in-Refused : goal.returns-in-Refused

@@ -1,7 +1,6 @@
 -- Each kind has its own share.
 use mathlib.Core.Path.{sym, ap, ◌∙◌}
 use Rattle.interval.specs.Demand.{share_of}
-use borrow.Author.Rules.{rules}
 use Rattle.judge.proofs.share.Goals as goal
 
 pub returns-in-Energy : goal.returns-in-Energy

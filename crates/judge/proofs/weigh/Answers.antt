@@ -1,7 +1,6 @@
 -- The demand is the sum over the jobs; the supply follows the kind.
 use Rattle.judge.proofs.Promised.{weighed_time, weighed_energy}
 use mathlib.Core.Path.{refl}
-use borrow.Author.Rules.{rules}
 use Rattle.judge.proofs.weigh.Goals as goal
 
 pub returns-in-Time : goal.returns-in-Time

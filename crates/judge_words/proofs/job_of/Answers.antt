@@ -1,5 +1,4 @@
 -- A job of a table that was read has a deadline.
-use borrow.Author.Rules.{rules}
 use Rattle.judge_words.proofs.job_of.Goals as goal
 
 pub returns : goal.returns

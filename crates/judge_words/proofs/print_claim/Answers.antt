@@ -1,6 +1,5 @@
 -- An interval that was weighed does not end at 0.
 use Rattle.judge_words.proofs.Standing.{refused_ends, accepted_ends}
-use borrow.Author.Rules.{rules}
 use Rattle.judge_words.proofs.print_claim.Goals as goal
 
 pub print_not_overloaded-requires : goal.print_not_overloaded-requires

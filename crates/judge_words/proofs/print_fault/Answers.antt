@@ -1,6 +1,5 @@
 -- What the refusal names stands.
 use Rattle.judge_words.proofs.Standing.{slot_in_plan, slot_is_jobs_13, slot_is_jobs_14, slot_is_jobs_15, job_in_table}
-use borrow.Author.Rules.{rules}
 use Rattle.judge_words.proofs.print_fault.Goals as goal
 
 ruleset standing = (slot_in_plan, slot_is_jobs_13, slot_is_jobs_14, slot_is_jobs_15, job_in_table)

@@ -1,6 +1,5 @@
 -- What a refusal names stands in the plan and in the table that was read.
 use Rattle.judge_words.proofs.Standing.{fault_jobs, fault_stands}
-use borrow.Author.Rules.{rules}
 use Rattle.judge_words.proofs.print_plan.Goals as goal
 
 ruleset standing = (fault_jobs, fault_stands)

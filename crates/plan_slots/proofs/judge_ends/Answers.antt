@@ -1,16 +1,12 @@
 -- The loop keeps: no job before k lacks slots. The first that does is the answer.
-use Prim.Native.Nat.{ℕ, ◌≤◌, ◌-◌}
-use mathlib.Core.List.{List}
-use lib.Dec.{ltb}
 use mathlib.Core.Path.{◌≡◌, refl, sym, ap, ◌∙◌, subst}
 use native.Mathlib.Omega.{arith}
 use mathlib.Core.Bool.{Bool}
 use lib.ListN.{get_or}
 use borrow.Author.Tests.{lt-ltb, le-ltb}
-use Rattle.sheet.specs.Paper.{Check, gives, ◌when◌, in_order}
+use Rattle.sheet.specs.Paper.{◌when◌, in_order}
 use Rattle.sheet.specs.Table.{job_of}
 use Rattle.sheet.proofs.Order.{in_order_none, in_order_clear, in_order_first, Refuses}
-use Rattle.sheet.specs.declared.Table.{Table}
 use Rattle.plan_slots.specs.Numbers.{fault_says}
 use Rattle.plan_slots.specs.declared.PlanFault.TheVariants.{LacksSlots}
 use Rattle.plan_slots.specs.Steps.{ends_by}

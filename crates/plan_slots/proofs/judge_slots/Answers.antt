@@ -1,12 +1,11 @@
 -- The loop keeps: the level and the slots that each job got are those of the plan as slot i begins, and no slot before i is refused.
-use Prim.Native.Nat.{◌≤◌, ◌+◌, ◌-◌}
+use Prim.Native.Nat.{◌+◌}
 use mathlib.Core.Path.{◌≡◌, refl, ap₂, ◌∙◌}
 use native.Mathlib.Omega.{arith}
-use lib.ListN.{length, get_or}
-use Rattle.sheet.specs.Table.{most_jobs, day_of}
+use lib.ListN.{get_or}
+use Rattle.sheet.specs.Table.{day_of}
 use Rattle.plan_slots.specs.declared.Passed.TheVariants.{Level, Fault}
-use Rattle.plan_slots.proofs.Keeping.{Kept, kept_first, SlotRead, kept_idle, refused_stranger, job_leaves, kept_decides}
-use borrow.Author.Rules.{rules}
+use Rattle.plan_slots.proofs.Keeping.{kept_first, SlotRead, kept_idle, refused_stranger, job_leaves, kept_decides}
 use Rattle.plan_slots.proofs.judge_slots.Goals as goal
 use Rattle.plan_slots.proofs.judge_slots.Goals.{After-wide-in-loop-i}
 

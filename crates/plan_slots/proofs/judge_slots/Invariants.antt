@@ -1,12 +1,9 @@
 -- The loop keeps: the level and the slots that each job got are those of the plan as slot i begins, and no slot before i is refused.
-use Prim.Native.Nat.{◌≤◌, ◌+◌, ◌-◌}
-use mathlib.Core.Path.{◌≡◌, refl, ap₂, ◌∙◌}
-use native.Mathlib.Omega.{arith}
-use lib.ListN.{length, get_or}
-use Rattle.sheet.specs.Table.{most_jobs, day_of}
-use Rattle.plan_slots.specs.declared.Passed.TheVariants.{Level, Fault}
-use Rattle.plan_slots.proofs.Keeping.{Kept, kept_first, SlotRead, kept_idle, refused_stranger, job_leaves, kept_decides}
-use borrow.Author.Rules.{rules}
+use Prim.Native.Nat.{◌≤◌, ◌-◌}
+use mathlib.Core.Path.{◌≡◌}
+use lib.ListN.{length}
+use Rattle.sheet.specs.Table.{day_of}
+use Rattle.plan_slots.proofs.Keeping.{Kept}
 use Rattle.plan_slots.proofs.judge_slots.Given as goal
 
 abbrev pub invariant-loop-i : goal.invariant-loop-i

@@ -1,6 +1,5 @@
 -- Each return follows the test that led to it.
 use Rattle.sheet.proofs.Tests.{tests}
-use borrow.Author.Rules.{rules}
 use Rattle.plan_slots.proofs.may_run.Goals as goal
 
 pub returns-then-slot-j : goal.returns-then-slot-j

@@ -3,7 +3,6 @@ use mathlib.Core.Path.{ap, ◌∙◌}
 use Rattle.sheet.specs.declared.Table.{Table}
 use Rattle.reader.specs.Promise.{harvest_behind}
 use Rattle.reader.proofs.Harvesting.{own_stretch}
-use borrow.Author.Rules.{rules}
 use Rattle.reader.proofs.harvest.Goals as goal
 
 pub returns : goal.returns

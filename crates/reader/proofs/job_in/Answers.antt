@@ -1,5 +1,4 @@
 -- The four fields are what the calls answered of the record, place by place.
-use borrow.Author.Rules.{rules}
 use Rattle.reader.proofs.job_in.Goals as goal
 
 pub returns : goal.returns

@@ -4,7 +4,6 @@ use mathlib.Core.Path.{sym, ◌∙◌}
 use native.Mathlib.Omega.{arith}
 use borrow.Author.Tests.{eq-eqb, ne_eqb}
 use Rattle.sheet.specs.Sheet.{record_length, harvest_back, first_job_back, jobs_in, slots_in, layout_fault}
-use borrow.Author.Rules.{rules}
 use Rattle.reader.proofs.layout_fault.Goals as goal
 
 pub returns-then-u16_at-slots : goal.returns-then-u16_at-slots

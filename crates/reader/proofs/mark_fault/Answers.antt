@@ -1,7 +1,6 @@
 -- Each return follows the tests that led to it.
 use Rattle.sheet.specs.Sheet.{mark_fault}
 use Rattle.sheet.proofs.Tests.{tests}
-use borrow.Author.Rules.{rules}
 use Rattle.reader.proofs.mark_fault.Goals as goal
 
 pub returns-then-bytes-length-ne-MARK_FIRST : goal.returns-then-bytes-length-ne-MARK_FIRST

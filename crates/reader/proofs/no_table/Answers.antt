@@ -1,5 +1,4 @@
 -- The places are all empty, and the numbers 0.
-use borrow.Author.Rules.{rules}
 use Rattle.reader.proofs.no_table.Goals as goal
 
 pub returns : goal.returns

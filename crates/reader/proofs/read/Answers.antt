@@ -1,7 +1,6 @@
 -- The loop keeps: no record before k refuses, and the jobs before k stand in their places.
-use Prim.Native.Nat.{◌≤◌, ◌-◌}
 use native.Mathlib.Omega.{arith}
-use Rattle.reader.proofs.Records.{ReadTo, read_none, read_more, record_refuses, records_good}
+use Rattle.reader.proofs.Records.{read_none, read_more, record_refuses, records_good}
 use borrow.Author.Rules.{rules}
 use Rattle.reader.proofs.read.Goals as goal
 

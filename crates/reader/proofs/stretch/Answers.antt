@@ -7,7 +7,6 @@ use Prim.Native.Nat.{ℕ, ◌*◌}
 use mathlib.Core.Path.{ap}
 use Rattle.sheet.specs.Sheet.{record_length}
 use Rattle.reader.specs.Promise.{harvest_behind}
-use borrow.Author.Rules.{rules}
 use Rattle.reader.proofs.stretch.Goals as goal
 
 pub returns-then-count-gt-MOST_JOBS : goal.returns-then-count-gt-MOST_JOBS

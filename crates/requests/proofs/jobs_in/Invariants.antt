@@ -1,7 +1,6 @@
 -- Nothing but safety is asked: what is left of the places falls.
 use Prim.Native.Nat.{◌≤◌, ◌-◌}
 use Rattle.sheet.specs.Table.{most_jobs}
-use borrow.Author.Rules.{rules}
 use Rattle.requests.proofs.jobs_in.Given as goal
 
 abbrev pub invariant-loop-k : goal.invariant-loop-k

@@ -2,7 +2,6 @@
 use Prim.Native.Nat.{ℕ}
 use mathlib.Core.Path.{◌≡◌, sym, ◌∙◌}
 use mathlib.Core.Bool.{Bool, true, false}
-use borrow.Author.Rules.{rules}
 use Rattle.sheet.specs.Paper.{gives}
 use Rattle.sheet.specs.Refusals.{refusal_says, record_says}
 use Rattle.sheet.specs.Table.{window_fault, work_fault}

@@ -1,14 +1,10 @@
 -- The loop keeps: no record before k refuses. The first that does is the answer.
 use Prim.Native.Nat.{ℕ, ◌≤◌, ◌-◌}
-use native.Mathlib.Omega.{arith}
-use mathlib.Core.Path.{◌≡◌, refl, sym, subst, ◌∙◌}
+use mathlib.Core.Path.{◌≡◌}
 use Rattle.sheet.specs.Paper.{Check, gives, in_order}
 use Rattle.sheet.specs.Refusals.{record_says}
 use Rattle.sheet.specs.Table.{job_of, window_fault, work_fault}
 use Rattle.sheet.specs.declared.Table.{Table}
-use Rattle.sheet.proofs.Order.{in_order_none, in_order_clear, in_order_first}
-use Rattle.sheet.proofs.Refusals.{says_refuses, says_gives}
-use borrow.Author.Rules.{rules}
 use Rattle.sheet.proofs.check_records.Given as goal
 
 abbrev pub record_is : Table → ℕ → Check

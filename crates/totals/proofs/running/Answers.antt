@@ -1,9 +1,9 @@
 -- The loop keeps: the sum is that of the first k slots, every entry up to k is its own total, and zeros stand behind it.
-use Prim.Native.Nat.{ℕ, min, ◌+◌, ◌-◌, ◌*◌, ◌≤◌, ◌<◌}
+use Prim.Native.Nat.{ℕ, ◌+◌, ◌<◌}
 use mathlib.Core.Path.{◌≡◌, refl, sym, subst, ◌∙◌}
 use native.Mathlib.Omega.{arith}
-use lib.ListN.{length, get_or, length-set}
-use Rattle.sheet.specs.Table.{most_slots, most_counted}
+use lib.ListN.{length, length-set}
+use Rattle.sheet.specs.Table.{most_slots}
 use Rattle.sheet.specs.Sums.{total, harvest_at, most_harvest}
 use Rattle.sheet.proofs.Sums.{total_none, total_more}
 use Rattle.sheet.proofs.Lists.{zeros_first}

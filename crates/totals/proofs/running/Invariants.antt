@@ -1,14 +1,9 @@
 -- The loop keeps: the sum is that of the first k slots, every entry up to k is its own total, and zeros stand behind it.
 use Prim.Native.Nat.{ℕ, min, ◌+◌, ◌-◌, ◌*◌, ◌≤◌, ◌<◌}
-use mathlib.Core.Path.{◌≡◌, refl, sym, subst, ◌∙◌}
-use native.Mathlib.Omega.{arith}
-use lib.ListN.{length, get_or, length-set}
+use mathlib.Core.Path.{◌≡◌}
+use lib.ListN.{length, get_or}
 use Rattle.sheet.specs.Table.{most_slots, most_counted}
 use Rattle.sheet.specs.Sums.{total, harvest_at, most_harvest}
-use Rattle.sheet.proofs.Sums.{total_none, total_more}
-use Rattle.sheet.proofs.Lists.{zeros_first}
-use Rattle.totals.proofs.Entries.{entries_more, small_more, zeros_more}
-use borrow.Author.Rules.{rules}
 use Rattle.totals.proofs.running.Given as goal
 
 abbrev pub invariant-loop-k : goal.invariant-loop-k

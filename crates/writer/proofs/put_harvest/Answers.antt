@@ -1,10 +1,8 @@
 -- The invariant: the first i bytes of the harvest are laid at the place.
-use Prim.Native.Nat.{◌≤◌, ◌-◌}
 use mathlib.Core.Path.{◌≡◌, refl}
 use native.Mathlib.Omega.{arith}
-use lib.ListN.{length, take}
+use lib.ListN.{length}
 use lib.Seq.{take-length}
-use Rattle.writer.specs.Laid.{Laid}
 use Rattle.writer.proofs.Laying.{laid_none, laid_byte}
 use borrow.Author.Rules.{rules}
 use Rattle.writer.proofs.put_harvest.Goals as goal

@@ -2,7 +2,6 @@
 use native.Mathlib.Numerals.{add-one}
 use native.Mathlib.Omega.{arith}
 use lib.ListN.{length-set}
-use borrow.Author.Rules.{rules}
 use Rattle.writer.proofs.put_pair.Goals as goal
 
 pub bounds-out-at-2 : goal.bounds-out-at-2

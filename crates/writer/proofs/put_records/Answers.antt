@@ -1,13 +1,8 @@
 -- The invariant: the first k records are laid at the front.
-use Prim.Native.Nat.{◌≤◌, ◌-◌}
 use mathlib.Core.Path.{◌≡◌, refl}
 use native.Mathlib.Omega.{arith}
-use lib.ListN.{length}
 use Rattle.sheet.specs.Lists.{joined}
-use Rattle.sheet.specs.Table.{job_of}
-use Rattle.writer.specs.Laid.{Laid}
 use Rattle.writer.proofs.Laying.{laid_none}
-use Rattle.sheet.proofs.Parts.{records_of}
 use Rattle.writer.proofs.Parts.{records_laid}
 use borrow.Author.Rules.{rules}
 use Rattle.writer.proofs.put_records.Goals as goal

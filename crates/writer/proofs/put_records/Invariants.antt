@@ -1,15 +1,10 @@
 -- The invariant: the first k records are laid at the front.
 use Prim.Native.Nat.{◌≤◌, ◌-◌}
-use mathlib.Core.Path.{◌≡◌, refl}
-use native.Mathlib.Omega.{arith}
+use mathlib.Core.Path.{◌≡◌}
 use lib.ListN.{length}
-use Rattle.sheet.specs.Lists.{joined}
 use Rattle.sheet.specs.Table.{job_of}
 use Rattle.writer.specs.Laid.{Laid}
-use Rattle.writer.proofs.Laying.{laid_none}
 use Rattle.sheet.proofs.Parts.{records_of}
-use Rattle.writer.proofs.Parts.{records_laid}
-use borrow.Author.Rules.{rules}
 use Rattle.writer.proofs.put_records.Given as goal
 
 abbrev pub invariant-loop-k : goal.invariant-loop-k

@@ -1,6 +1,5 @@
 -- The records, the harvest and the trailer, one behind another, are the sheet.
 use Rattle.writer.proofs.Parts.{sheet_laid}
-use borrow.Author.Rules.{rules}
 use Rattle.writer.proofs.put_sheet.Goals as goal
 
 pub returns : goal.returns

@@ -1,6 +1,5 @@
 -- Its six runs of two bytes, one behind another, are the trailer.
 use Rattle.writer.proofs.Parts.{trailer_laid}
-use borrow.Author.Rules.{rules}
 use Rattle.writer.proofs.put_trailer.Goals as goal
 
 pub returns : goal.returns

@@ -4,7 +4,6 @@ use Rattle.sheet.specs.Table.{day_of}
 use Rattle.sheet.specs.WellFormed.{GoodDay}
 use Rattle.sheet.proofs.HandedIn.{checked_good}
 use Rattle.writer.proofs.Promised.{writes_refused, writes_no_room, writes_length}
-use borrow.Author.Rules.{rules}
 use Rattle.writer.proofs.write.Goals.{In_default}
 use Rattle.writer.proofs.write.Goals as goal
 
