@@ -12,7 +12,6 @@ use Rattle.sheet.specs.Refusals.{refusal_says, outcome_says}
 use Rattle.sheet.specs.Table.{Day, day_of}
 use Rattle.sheet.specs.WellFormed.{GoodDay}
 use Rattle.sheet.specs.declared.Outcome.{Outcome}
-use Rattle.sheet.specs.declared.Outcome.TheVariants as Outcome
 use Rattle.sheet.specs.declared.Refusal.{Refusal}
 use Rattle.sheet.specs.declared.Table.{Table}
 use Rattle.sheet.proofs.HandedIn.{check_leaves, hands_on, called_there}
@@ -22,7 +21,6 @@ use Rattle.reader.specs.declared.Reading.{Reading}
 use Rattle.reader.proofs.Harvesting.{read_refuses, read_leaves, read_day}
 use Rattle.demand.specs.Search.{first_overload}
 use Rattle.demand.specs.declared.Found.{Found}
-use Rattle.demand.specs.declared.Found.TheVariants as Found
 use Rattle.demand.specs.declared.Overload.{Overload}
 use Rattle.choice.specs.Choosing.{unfinished}
 use Rattle.slot_run.specs.Run.{state_at, plan_of}

@@ -5,7 +5,6 @@ use Rattle.sheet.specs.Paper.{Paper, gives, refuses, ◌when◌, ◌else◌, whe
 use Rattle.sheet.specs.Table.{Day}
 use Rattle.demand.specs.Search.{Interval, overload_says, first_overload}
 use Rattle.demand.specs.declared.Found.{Found}
-use Rattle.demand.specs.declared.Found.TheVariants as Found
 use Rattle.choice.specs.Choosing.{unfinished}
 use Rattle.slot_run.specs.Run.{state_at, plan_of}
 use Rattle.choice.specs.declared.Choice.{Choice}

@@ -1,11 +1,7 @@
 -- Each answer follows the buffer's length, and then what the search found and what the run left, with the totals of the day.
-use mathlib.Core.Path.{◌≡◌}
-use lib.ListN.{length}
 use Rattle.sheet.specs.Table.{day_of}
 use Rattle.totals.specs.Totals.{Summed}
-use Rattle.demand.specs.Search.{first_overload}
 use Rattle.planner.proofs.Promised.{plans_wrong, plans_overloaded, plans_met, plans_undecided}
-use borrow.Author.Rules.{rules}
 use Rattle.planner.proofs.plan_checked.Goals.{After-running-totals}
 use Rattle.planner.proofs.plan_checked.Goals as goal
 

@@ -1,7 +1,6 @@
 -- The sheet's own refusal, or the plan of the table and harvest that stand in it.
 use Rattle.reader.proofs.Harvesting.{read_good}
 use Rattle.planner.proofs.Promised.{refused_there, planned_there}
-use borrow.Author.Rules.{rules}
 use Rattle.planner.proofs.plan_sheet.Goals as goal
 
 pub returns-in-Refused : goal.returns-in-Refused

@@ -1,7 +1,6 @@
 -- The table's own refusal, or the plan of a checked table.
 use Rattle.sheet.proofs.HandedIn.{checked_table}
 use Rattle.planner.proofs.Promised.{refused_here}
-use borrow.Author.Rules.{rules}
 use Rattle.planner.proofs.plan_table.Goals as goal
 
 pub returns-in-Refused : goal.returns-in-Refused

@@ -1,8 +1,6 @@
 -- Nothing but safety is asked: what is left of the room falls, and the room stays as long.
 use Prim.Native.Nat.{◌≤◌, ◌-◌}
-use mathlib.Core.Path.{◌≡◌}
 use lib.ListN.{length}
-use borrow.Author.Rules.{rules}
 use Rattle.evidence.proofs.file.read_on.Given as goal
 
 abbrev pub invariant-loop-count : goal.invariant-loop-count
