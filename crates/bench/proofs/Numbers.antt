@@ -12,15 +12,12 @@ use Rattle.sheet.proofs.Order.{Refuses}
 use Rattle.sheet.proofs.Refusals.{refusal_refuses}
 use Rattle.writer.specs.Promise.{written_says}
 use Rattle.writer.specs.declared.Written.{Written}
-use Rattle.writer.specs.declared.Written.TheVariants as Written
 use Rattle.interval.specs.Demand.{kind_number}
 use Rattle.interval.specs.declared.Kind.{Kind}
 use Rattle.demand.specs.Search.{overload_says, found_says, first_overload, searched_says}
 use Rattle.demand.specs.declared.Found.{Found}
-use Rattle.demand.specs.declared.Found.TheVariants as Found
 use Rattle.demand.specs.declared.Overload.{Overload}
 use Rattle.demand.specs.declared.Searched.{Searched}
-use Rattle.demand.specs.declared.Searched.TheVariants as Searched
 use Rattle.choice.specs.Choosing.{unfinished}
 use Rattle.slot_run.specs.Run.{state_at}
 use Rattle.choice.specs.declared.Choice.{Choice}
@@ -30,7 +27,6 @@ use Rattle.planner.specs.Plan.{undecided, by_found, by_unfinished, verdict_of}
 use Rattle.planner.specs.Promise.{planned_says, Plans}
 use Rattle.planner.proofs.Theorems.{verdict_given}
 use Rattle.planner.specs.declared.Planned.{Planned}
-use Rattle.planner.specs.declared.Planned.TheVariants as Planned
 use Rattle.plan_slots.specs.Numbers.{fault_says}
 use Rattle.plan_slots.specs.declared.PlanFault.{PlanFault}
 use Rattle.judge.specs.Numbers.{no_interval, not_overloaded}

@@ -6,7 +6,6 @@ use native.Mathlib.Omega.{arith}
 use Rattle.sheet.specs.HandedIn.{HandedIn, day_in, Sound}
 use Rattle.demand.specs.Search.{first_overload}
 use Rattle.demand.specs.declared.Found.{Found}
-use Rattle.demand.specs.declared.Found.TheVariants as Found
 use Rattle.choice.specs.Choosing.{unfinished}
 use Rattle.slot_run.specs.Run.{state_at, plan_of}
 use Rattle.choice.specs.declared.Choice.{Choice}

@@ -16,7 +16,6 @@ use Rattle.sheet.proofs.HandedIn.{check_leaves, sound_day}
 use Rattle.interval.specs.Demand.{kind_number}
 use Rattle.demand.specs.Search.{first_overload}
 use Rattle.demand.specs.declared.Found.{Found}
-use Rattle.demand.specs.declared.Found.TheVariants as Found
 use Rattle.demand.specs.declared.Overload.{Overload}
 use Rattle.demand.proofs.Theorems.{finds_first, finds_none}
 use Rattle.choice.specs.Choosing.{left_of, unfinished}

@@ -1,5 +1,4 @@
 -- By cases on the answer; every refusal has the same number.
-use borrow.Author.Rules.{rules}
 use Rattle.bench.proofs.Numbers.{search_refused, search_overloaded, clear_numbered}
 use Rattle.bench.proofs.found_number.Goals as goal
 

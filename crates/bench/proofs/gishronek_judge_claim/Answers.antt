@@ -2,7 +2,6 @@
 use Prim.Native.Nat.{ℕ, ◌+◌}
 use mathlib.Core.Path.{ap₂, ◌∙◌}
 use mathlib.Core.List.{List}
-use borrow.Author.Rules.{rules}
 use Rattle.sheet.specs.Paper.{Check}
 use Rattle.judge.specs.declared.Sums.{Sums}
 use Rattle.sheet.specs.HandedIn.{on_sheet}

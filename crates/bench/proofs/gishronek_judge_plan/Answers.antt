@@ -2,7 +2,6 @@
 use Prim.Native.Nat.{ℕ}
 use mathlib.Core.Path.{◌≡◌, ap, ◌∙◌}
 use mathlib.Core.List.{List}
-use borrow.Author.Rules.{rules}
 use Rattle.sheet.specs.HandedIn.{on_sheet}
 use Rattle.judge.specs.Promise.{plan_answered, JudgesPlan}
 use Rattle.judge.specs.declared.JudgedPlan.{JudgedPlan}

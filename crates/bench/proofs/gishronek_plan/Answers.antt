@@ -2,7 +2,6 @@
 use Prim.Native.Nat.{ℕ}
 use mathlib.Core.Path.{◌≡◌, ap, ◌∙◌}
 use mathlib.Core.List.{List}
-use borrow.Author.Rules.{rules}
 use Rattle.sheet.specs.HandedIn.{on_sheet}
 use Rattle.planner.specs.Promise.{planned_says, Plans}
 use Rattle.planner.specs.declared.Planned.{Planned}

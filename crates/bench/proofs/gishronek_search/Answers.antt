@@ -2,7 +2,6 @@
 use Prim.Native.Nat.{ℕ}
 use mathlib.Core.Path.{◌≡◌, ap, ◌∙◌}
 use mathlib.Core.List.{List}
-use borrow.Author.Rules.{rules}
 use Rattle.sheet.specs.HandedIn.{on_table}
 use Rattle.sheet.specs.declared.Table.{Table}
 use Rattle.reader.specs.Promise.{table_read, harvest_behind}

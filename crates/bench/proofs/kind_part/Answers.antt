@@ -2,7 +2,6 @@
 use mathlib.Core.Path.{refl}
 use native.Mathlib.Omega.{arith}
 use Rattle.bench.proofs.Numbers.{kind_told}
-use borrow.Author.Rules.{rules}
 use Rattle.bench.proofs.kind_part.Goals as goal
 
 pub returns-in-Time : goal.returns-in-Time

@@ -1,5 +1,4 @@
 -- By cases on the answer; every refusal has the same number, and a job's number is small.
-use borrow.Author.Rules.{rules}
 use Rattle.bench.proofs.Numbers.{plan_refused, plan_overloaded, plan_undecided, undecided_fits}
 use Rattle.bench.proofs.plan_number.Goals as goal
 

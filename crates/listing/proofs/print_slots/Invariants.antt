@@ -1,6 +1,5 @@
 -- Nothing but safety is asked: what is left of the slots falls.
 use Prim.Native.Nat.{◌-◌}
-use borrow.Author.Rules.{rules}
 use Rattle.listing.proofs.print_slots.Given as goal
 
 abbrev pub invariant-loop-slot : goal.invariant-loop-slot

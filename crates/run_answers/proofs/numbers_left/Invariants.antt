@@ -3,7 +3,6 @@ use Prim.Native.Nat.{◌≤◌, ◌-◌}
 use mathlib.Core.Path.{◌≡◌}
 use lib.ListN.{length}
 use Rattle.sheet.specs.Table.{most_jobs}
-use borrow.Author.Rules.{rules}
 use Rattle.run_answers.proofs.numbers_left.Given as goal
 
 abbrev pub invariant-loop-k : goal.invariant-loop-k

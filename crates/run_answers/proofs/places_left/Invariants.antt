@@ -1,7 +1,6 @@
 -- The count falls from 64.
 use Prim.Native.Nat.{◌≤◌}
 use Rattle.sheet.specs.Table.{most_jobs}
-use borrow.Author.Rules.{rules}
 use Rattle.run_answers.proofs.places_left.Given as goal
 
 abbrev pub invariant-loop-count : goal.invariant-loop-count

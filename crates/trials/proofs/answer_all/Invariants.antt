@@ -1,7 +1,6 @@
 -- Nothing but safety is asked: the turns that are left fall.
 use mathlib.Core.Path.{◌≡◌}
 use lib.ListN.{length}
-use borrow.Author.Rules.{rules}
 use Rattle.trials.proofs.answer_all.Given as goal
 
 abbrev pub invariant-loop-turns : goal.invariant-loop-turns

@@ -2,7 +2,6 @@
 use Prim.Native.Nat.{ℕ}
 use mathlib.Core.Path.{◌≡◌, sym}
 use lib.ListN.{length, replicate, length-replicate}
-use borrow.Author.Rules.{rules}
 use Rattle.trials.proofs.main.Goals as goal
 
 zeros : (n : ℕ) → n ≡ length {A = ℕ} (replicate n 0)

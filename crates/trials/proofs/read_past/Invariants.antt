@@ -1,7 +1,6 @@
 -- Nothing but safety is asked: what is left to be read falls.
 use mathlib.Core.Path.{◌≡◌}
 use lib.ListN.{length}
-use borrow.Author.Rules.{rules}
 use Rattle.trials.proofs.read_past.Given as goal
 
 abbrev pub invariant-loop-left : goal.invariant-loop-left
