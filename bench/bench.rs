@@ -18,7 +18,7 @@ use std::hint::black_box;
 use std::time::Instant;
 
 // ------------------------------------------------------------------------------------------
-// The proved calls, of target/staticlib/libbench.a
+// The proved calls, of crates/bench/out/libbench.a
 // ------------------------------------------------------------------------------------------
 
 // A slice of the caller's is its pointer and its length.
