@@ -11,8 +11,7 @@ use Rattle.sheet.specs.Refusals.{refusal_says, outcome_says}
 use Rattle.sheet.specs.Sheet.{sheet_faults, sheet_says}
 use Rattle.sheet.specs.Table.{Day, day_of, table_faults, table_says}
 use Rattle.sheet.specs.WellFormed.{GoodDay, GivenFirst}
-use Rattle.sheet.specs.declared.Outcome.{Outcome}
-use Rattle.sheet.specs.declared.Outcome.TheVariants.{Accepted, Refused}
+use Rattle.std.specs.Prelude.{Result, Ok, Err}
 use Rattle.sheet.specs.declared.Refusal.{Refusal}
 use Rattle.sheet.specs.declared.Table.{Table}
 use Rattle.sheet.proofs.Exactly.{leave_or_refusal}
@@ -73,19 +72,19 @@ module _ (h : HandedIn) {A : Type 0} (rest : Paper A) where
 
 -- ---- an outcome that is what the check says
 
-module _ (h : HandedIn) (o : Outcome) (said : outcome_says o ≡ check_says h) where
-  pub outcome_accepted_exactly : (o ≡ Accepted) ↔ Sound h
-  outcome_accepted_exactly = Iff.trans (outcome_exactly o Accepted _ said) (check_leaves h)
+module _ (h : HandedIn) (o : Result (Unit {0}) Refusal) (said : outcome_says o ≡ check_says h) where
+  pub outcome_accepted_exactly : (o ≡ Ok tt) ↔ Sound h
+  outcome_accepted_exactly = Iff.trans (outcome_exactly o (Ok tt) _ said) (check_leaves h)
 
-  pub outcome_refused_exactly : (r : Refusal) → (o ≡ Refused r) ↔ GivenFirst (States h) r
-  outcome_refused_exactly r = Iff.trans (outcome_exactly o (Refused r) _ said) (check_refuses h r)
+  pub outcome_refused_exactly : (r : Refusal) → (o ≡ Err r) ↔ GivenFirst (States h) r
+  outcome_refused_exactly r = Iff.trans (outcome_exactly o (Err r) _ said) (check_refuses h r)
 
   -- past the check the day is well formed
-  pub checked_good : o ≡ Accepted → GoodDay (day_in h)
+  pub checked_good : o ≡ Ok tt → GoodDay (day_in h)
   checked_good e = sound_day h (outcome_accepted_exactly.0 e)
 
 -- the same of a table with its harvest
-pub checked_table : (t : Table) (harvest : List ℕ) (o : Outcome) → outcome_says o ≡ table_says (day_of t harvest) → o ≡ Accepted → GoodDay (day_of t harvest)
+pub checked_table : (t : Table) (harvest : List ℕ) (o : Result (Unit {0}) Refusal) → outcome_says o ≡ table_says (day_of t harvest) → o ≡ Ok tt → GoodDay (day_of t harvest)
 checked_table t harvest = checked_good (on_table t harvest)
 
 -- ---- a call's own number, asked right after the check

@@ -9,8 +9,7 @@ use Rattle.sheet.specs.Paper.{Paper, Check, gives, refuses, refuses_at, ◌when�
 use Rattle.sheet.specs.Refusals.{refusal_says, refusal_number, outcome_says}
 use Rattle.sheet.specs.declared.Refusal.{Refusal}
 use Rattle.sheet.specs.declared.Refusal.TheVariants.{Short, Mark, Counts, Layout, Window, Work}
-use Rattle.sheet.specs.declared.Outcome.{Outcome}
-use Rattle.sheet.specs.declared.Outcome.TheVariants.{Accepted, Refused}
+use Rattle.std.specs.Prelude.{Result, Ok, Err}
 use Rattle.sheet.proofs.Order.{Refuses, where_refused}
 
 -- ---- case by case
@@ -86,22 +85,22 @@ module _ {A R : Type 0} (says : R → Paper A) (meant : Paper A → R) (back : (
 pub refusal_one : (A : Type 0) (r q : Refusal) → refusal_says {A = A} r ≡ refusal_says q → r ≡ q
 refusal_one A = said_one refusal_says (by_refusal (λ p. p) Short) (by_refusal_lem A (λ p. p) Short)
 
-outcome_back : (o : Outcome) → by_refusal Refused Accepted (outcome_says o) ≡ o
+outcome_back : (o : Result (Unit {0}) Refusal) → by_refusal Err (Ok tt) (outcome_says o) ≡ o
 unfolding by_refusal
-outcome_back Accepted = refl
-outcome_back (Refused r) = by_refusal_lem _ Refused Accepted r
+outcome_back (Ok leave) = refl
+outcome_back (Err r) = by_refusal_lem _ Err (Ok tt) r
 
-pub outcome_one : (o p : Outcome) → outcome_says o ≡ outcome_says p → o ≡ p
-outcome_one = said_one outcome_says (by_refusal Refused Accepted) outcome_back
+pub outcome_one : (o p : Result (Unit {0}) Refusal) → outcome_says o ≡ outcome_says p → o ≡ p
+outcome_one = said_one outcome_says (by_refusal Err (Ok tt)) outcome_back
 
-pub outcome_exactly : (o p : Outcome) (defined : Check) → outcome_says o ≡ defined → (o ≡ p) ↔ (defined ≡ outcome_says p)
-outcome_exactly = said_exactly outcome_says (by_refusal Refused Accepted) outcome_back
+pub outcome_exactly : (o p : Result (Unit {0}) Refusal) (defined : Check) → outcome_says o ≡ defined → (o ≡ p) ↔ (defined ≡ outcome_says p)
+outcome_exactly = said_exactly outcome_says (by_refusal Err (Ok tt)) outcome_back
 
 -- what an outcome that is a refusal says, refuses; and of one that is accepted, accepts
-pub says_refuses : (o : Outcome) (r : Refusal) (x : Check) → o ≡ Refused r → outcome_says o ≡ x → Refuses x
+pub says_refuses : (o : Result (Unit {0}) Refusal) (r : Refusal) (x : Check) → o ≡ Err r → outcome_says o ≡ x → Refuses x
 says_refuses o r x e h = subst Refuses (sym (ap outcome_says e) ∙ h) (refusal_refuses _ r)
 
-pub says_gives : (o : Outcome) (x : Check) → o ≡ Accepted → outcome_says o ≡ x → x ≡ gives tt
+pub says_gives : (o : Result (Unit {0}) Refusal) (x : Check) → o ≡ Ok tt → outcome_says o ≡ x → x ≡ gives tt
 says_gives o x e h = sym h ∙ ap outcome_says e
 
 -- ---- a call's own answers: those that are no refusal of a sheet or a table

@@ -1,3 +1,4 @@
+pub mod Checked
 pub mod HandedIn
 pub mod Lists
 pub mod Paper

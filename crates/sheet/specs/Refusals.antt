@@ -1,10 +1,8 @@
 -- "Refusal numbers": the number of each refusal of a sheet or a table, once, and the order in which they are given.
-use Rattle.std.specs.Prelude.{ℕ, Bool}
+use Rattle.std.specs.Prelude.{ℕ, Bool, Result, Ok, Err}
 use Rattle.sheet.specs.Paper.{Paper, Check, gives, refuses, refuses_at, ◌when◌, ◌else◌, in_order, number_of, place_of}
 use Rattle.sheet.specs.declared.Refusal.{Refusal}
 use Rattle.sheet.specs.declared.Refusal.TheVariants.{Short, Mark, Counts, Layout, Window, Work}
-use Rattle.sheet.specs.declared.Outcome.{Outcome}
-use Rattle.sheet.specs.declared.Outcome.TheVariants.{Accepted, Refused}
 
 -- a refusal as the paper writes it: "Refusals 5 and 6 name the record"
 abbrev pub refusal_says : {A : Type 0} → Refusal → Paper A
@@ -22,10 +20,10 @@ refusal_number r = number_of (refusal_says {A = Unit {0}} r)
 abbrev pub refusal_place : Refusal → ℕ
 refusal_place r = place_of (refusal_says {A = Unit {0}} r)
 
--- an outcome as the paper writes it
-abbrev pub outcome_says : Outcome → Check
-outcome_says Accepted = gives tt
-outcome_says (Refused r) = refusal_says r
+-- a check's answer as the paper writes it
+abbrev pub outcome_says : Result (Unit {0}) Refusal → Check
+outcome_says (Ok leave) = gives tt
+outcome_says (Err r) = refusal_says r
 
 -- which refusals apply, each by itself; `window` and `work` are asked of the records 0 to records - 1
 pub record Faults : Type 0 where

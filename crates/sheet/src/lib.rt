@@ -2,11 +2,15 @@
 // of a table and a harvest that are handed to it in place of a sheet.
 #![tactic(auto)]
 
+mod day;
+
 ghost use Rattle.std.specs.Prelude.{◌≡◌, min, ◌*◌, ◌≤◌};
 ghost use Rattle.sheet.specs.Paper.{in_order};
 ghost use Rattle.sheet.specs.Refusals.{refusal_number, refusal_place, outcome_says, record_says};
 ghost use Rattle.sheet.specs.Sums.{most_cost};
 ghost use Rattle.sheet.specs.Table.{most_jobs, job_of, counted_as, most_counted, day_of, counts_fault, window_fault, work_fault, table_says};
+
+pub use day::CheckedDay;
 
 // The limits of document 01.
 pub const MOST_JOBS: usize = 64;
@@ -46,7 +50,7 @@ pub struct Table {
 }
 
 // Why a sheet or a table is refused. `number` gives the refusal's number in document 01.
-#[derive(Clone, Copy)]
+#[derive(Clone, Copy, Debug, PartialEq, Eq)]
 pub enum Refusal {
     // 1: the sheet is under 12 bytes
     Short,
@@ -60,13 +64,6 @@ pub enum Refusal {
     Window(usize),
     // 6: this record's slots wanted are 0 or above 1,440, its energy is 0, or its last byte is not 0
     Work(usize),
-}
-
-// The answer of a check.
-#[derive(Clone, Copy)]
-pub enum Outcome {
-    Accepted,
-    Refused(Refusal),
 }
 
 // What a slot's harvest byte counts for, wherever a slot's harvest is used.
@@ -148,50 +145,49 @@ fn work_fault(j: Job, last: u8) -> bool
 }
 
 // Record k of a sheet or a table, by itself: 5 before 6. A table's record has no last byte: hand 0.
-pub fn check_record(slots: u16, j: Job, last: u8, k: usize) -> Outcome
+pub fn check_record(slots: u16, j: Job, last: u8, k: usize) -> Result<(), Refusal>
     ensures { outcome_says result ≡ record_says (window_fault slots j) (work_fault j last) k }
 {
     if window_fault(slots, j) {
-        return Outcome::Refused(Refusal::Window(k));
+        return Err(Refusal::Window(k));
     }
     if work_fault(j, last) {
-        return Outcome::Refused(Refusal::Work(k));
+        return Err(Refusal::Work(k));
     }
-    Outcome::Accepted
+    Ok(())
 }
 
-// The records of a table of at most 64 jobs, in order. Only `check` calls it.
-fn check_records(t: Table) -> Outcome
-    requires { t.count ≤ most_jobs }
-    ensures { outcome_says result ≡ in_order (λ k. record_says (window_fault t.slots (job_of t k)) (work_fault (job_of t k) 0) k) t.count }
+// The records of a table of at most 64 jobs, in order.
+fn check_records(t: &Table) -> Result<(), Refusal>
+    requires { t.now.count ≤ most_jobs }
+    ensures { outcome_says result ≡ in_order (λ k. record_says (window_fault t.now.slots (job_of t.now k)) (work_fault (job_of t.now k) 0) k) t.now.count }
 {
-    let count = t.count;
-    let slots = t.slots;
-    let mut k = 0;
-    while k < count {
-        let j = t.jobs[k];
-        let answer = check_record(slots, j, 0, k);
-        if let Outcome::Refused(_) = answer {
-            return answer;
-        }
-        k += 1;
+    for (k, job) in t.jobs[..t.count].iter().enumerate() {
+        check_record(t.slots, *job, 0, k)?;
     }
-    Outcome::Accepted
+    Ok(())
+}
+
+// The check, of a table that is lent.
+fn check_table(t: &Table, harvest: &[u8]) -> Result<(), Refusal>
+    ensures { outcome_says result ≡ table_says (day_of t.now harvest.now) }
+{
+    if counts_fault(t.count, t.slots) {
+        return Err(Refusal::Counts);
+    }
+    if harvest.len() != t.slots as usize {
+        return Err(Refusal::Layout);
+    }
+    check_records(t)
 }
 
 // The check of a table and a harvest that are handed in place of a sheet: 3, then 4 where the
 // harvest is not of slots bytes, then the records in order with 5 before 6 in each. It takes any
 // table and any harvest, and looks at no place of the table beyond its last job.
-pub fn check(t: Table, harvest: &[u8]) -> Outcome
+pub fn check(t: Table, harvest: &[u8]) -> Result<(), Refusal>
     ensures { outcome_says result ≡ table_says (day_of t harvest.now) }
 {
-    if counts_fault(t.count, t.slots) {
-        return Outcome::Refused(Refusal::Counts);
-    }
-    if harvest.len() != t.slots as usize {
-        return Outcome::Refused(Refusal::Layout);
-    }
-    check_records(t)
+    check_table(&t, harvest)
 }
 
 // The refusal's number in document 01.

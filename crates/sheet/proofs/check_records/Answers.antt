@@ -1,35 +1,39 @@
--- The loop keeps: no record before k refuses. The first that does is the answer.
-use Prim.Native.Nat.{ℕ}
-use native.Mathlib.Omega.{arith}
-use mathlib.Core.Path.{◌≡◌, refl, sym, subst, ◌∙◌}
-use Rattle.sheet.specs.Paper.{gives, in_order}
-use Rattle.sheet.proofs.Order.{in_order_none, in_order_clear, in_order_first}
-use Rattle.sheet.proofs.Refusals.{says_refuses, says_gives}
-use borrow.Author.Rules.{rules}
+-- The first record that refuses is the answer; where none does, the loop has passed them all.
+use Rattle.std.proofs.Common.{arith, ◌<◌, ℕ, ◌≡◌, slice_index_or, take}
+use Rattle.std.proofs.lemmas.List.{get_or-take}
+use Rattle.std.proofs.lemmas.Result.{err_from_is_err_and}
+use mathlib.Core.Path.{refl, sym, ap, subst, ◌∙◌}
+use Rattle.sheet.specs.Paper.{Check, gives, in_order}
+use Rattle.sheet.specs.Refusals.{record_says}
+use Rattle.sheet.specs.Table.{job_of, no_job, window_fault, work_fault}
+use Rattle.sheet.specs.declared.Job.{Job}
+use Rattle.sheet.specs.declared.Table.{Table}
+use Rattle.sheet.proofs.Order.{Refuses, in_order_none, in_order_clear, in_order_first}
+use Rattle.sheet.proofs.Refusals.{refusal_refuses}
 use Rattle.sheet.proofs.check_records.Invariants.{record_is}
 use Rattle.sheet.proofs.check_records.Goals as goal
 
-pub returns-in-Refused : goal.returns-in-Refused
-returns-in-Refused c =
-    let said = c.check_record-answer.ensures in
-    said
-    ∙ sym
-    (in_order_first (record_is c.args.t) c.loop-k.k c.args.t.count c.loop-k-test.true c.loop-k.invariant.3
-    (says_refuses _ _ _ c.in-Refused.is said))
+-- what is asked of the k-th of the first jobs is asked of job k
+asked : (t : Table) (k : ℕ) → k < t.count
+    → record_says (window_fault t.slots (slice_index_or (take t.count t.jobs) k no_job)) (work_fault (slice_index_or (take t.count t.jobs) k no_job) 0) k ≡ record_is t k
+asked t k in_table = ap (λ (j : Job). record_says (window_fault t.slots j) (work_fault j 0) k) (get_or-take t.count t.jobs k no_job in_table)
+
+pub loop-k-init : goal.loop-k-init
+loop-k-init c = in_order_none _
+
+pub returns-in_err-check_record : goal.returns-in_err-check_record
+returns-in_err-check_record c =
+    let p = err_from_is_err_and c.from_residual.result c.from_residual.ensures.1 in
+    let in_table : c.loop-k.k < c.args.t.now.count = omega arith in
+    let said = c.in_err-check_record.ensures ∙ asked c.args.t.now c.loop-k.k in_table in
+    rw (p.1, p.2) (said ∙ sym (in_order_first (record_is c.args.t.now) c.loop-k.k c.args.t.now.count in_table c.loop-k.invariant (subst Refuses said (refusal_refuses _ _))))
 
 pub loop-k-preserved : goal.loop-k-preserved
-loop-k-preserved c = (
-  refl,
-  refl,
-  search rules,
-  in_order_clear (record_is c.args.t) c.loop-k.k c.loop-k.invariant.3
-      (says_gives _ _ c.in_default.is c.check_record-answer.ensures),
-)
+loop-k-preserved c =
+    let in_table : c.loop-k.k < c.args.t.now.count = omega arith in
+    in_order_clear (record_is c.args.t.now) c.loop-k.k c.loop-k.invariant (sym (c.in_ok-check_record.ensures ∙ asked c.args.t.now c.loop-k.k in_table))
 
 pub returns : goal.returns
 returns c =
-    let at_end : c.loop-k.k ≡ c.args.t.count = omega arith in
-    sym (subst (λ (n : ℕ). in_order (record_is c.args.t) n ≡ gives tt) at_end c.loop-k.invariant.3)
-
-pub loop-k-init : goal.loop-k-init
-loop-k-init c = (refl, refl, search rules, in_order_none _)
+    let at_end : c.loop-k.k ≡ c.args.t.now.count = omega arith in
+    sym (subst (λ (n : ℕ). in_order (record_is c.args.t.now) n ≡ gives tt) at_end c.loop-k.invariant)

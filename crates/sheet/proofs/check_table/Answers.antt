@@ -3,7 +3,7 @@ use mathlib.Core.Path.{sym, ◌∙◌}
 use borrow.Author.Tests.{eq-eqb, ne_eqb}
 use Rattle.sheet.specs.Table.{table_says}
 use Rattle.sheet.proofs.Words.{counts_words}
-use Rattle.sheet.proofs.check.Goals as goal
+use Rattle.sheet.proofs.check_table.Goals as goal
 
 pub returns-then-counts_fault : goal.returns-then-counts_fault
 unfolding table_says
