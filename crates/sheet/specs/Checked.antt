@@ -1,7 +1,7 @@
 -- What a check that hands on its day promises, of whatever was handed in.
 use Rattle.std.specs.Prelude.{◌≡◌, Result, Ok, Err}
 use Rattle.sheet.specs.HandedIn.{HandedIn, check_says, day_in}
-use Rattle.sheet.specs.Paper.{Check, gives}
+use Rattle.sheet.specs.Paper.{gives}
 use Rattle.sheet.specs.Refusals.{refusal_says}
 use Rattle.sheet.specs.Table.{Day, day_of}
 use Rattle.sheet.specs.declared.day.CheckedDay.{CheckedDay}

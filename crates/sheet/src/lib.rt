@@ -11,6 +11,8 @@ ghost use Rattle.sheet.specs.Sums.{most_cost};
 ghost use Rattle.sheet.specs.Table.{most_jobs, job_of, counted_as, most_counted, day_of, counts_fault, window_fault, work_fault, table_says};
 
 pub use day::CheckedDay;
+use std::error::Error;
+use std::fmt;
 
 // The limits of document 01.
 pub const MOST_JOBS: usize = 64;
@@ -31,7 +33,7 @@ pub const IDLE: u8 = 255;
 
 // A job may run in the slots from its release up to, not including, its deadline. It wants that
 // many slots, and each slot that it is busy costs its energy.
-#[derive(Clone, Copy)]
+#[derive(Clone, Copy, Debug, Default, PartialEq, Eq)]
 pub struct Job {
     pub release: u16,
     pub deadline: u16,
@@ -70,39 +72,35 @@ pub enum Refusal {
 pub fn counted(byte: u8) -> u16
     ensures { (result ≡ counted_as byte) × (result ≤ most_counted) }
 {
-    byte as u16
+    u16::from(byte)
 }
 
 // A number of a table or a state, as wide as the sums of such numbers.
 pub fn wide(number: u16) -> u32
     ensures { (result ≡ number) × (result ≤ 65535) }
 {
-    number as u32
+    u32::from(number)
 }
 
 // An energy, as wide.
 pub fn widened(energy: u8) -> u32
     ensures { (result ≡ energy) × (result ≤ 255) }
 {
-    energy as u32
+    u32::from(energy)
 }
 
 // The lesser of two numbers, the first of which fits a level: a level is cut at capacity.
 pub fn cut(capacity: u16, level: u32) -> u16
     ensures { result ≡ min capacity level }
 {
-    if level < wide(capacity) {
-        level as u16
-    } else {
-        capacity
-    }
+    level.min(u32::from(capacity)) as u16
 }
 
 // What all the slots that a job wants cost: slots wanted × energy.
 pub fn cost(wanted: u16, energy: u8) -> u32
     ensures { (result ≡ wanted * energy) × (result ≤ most_cost) }
 {
-    wanted as u32 * energy as u32
+    u32::from(wanted) * u32::from(energy)
 }
 
 // 3 applies: more than 64 jobs, or slots 0 or above 1,440.
@@ -217,3 +215,25 @@ pub fn place(r: Refusal) -> usize
         Refusal::Work(k) => k,
     }
 }
+
+impl fmt::Display for Refusal {
+    // What is wrong, in words; a record is spoken of as `it`.
+    fn fmt<W: fmt::Write>(&self, f: &mut fmt::Formatter<W>) -> fmt::Result {
+        f.write_str(match self {
+            Refusal::Short => "the sheet is under 12 bytes",
+            Refusal::Mark => "the sheet does not end in 45 48 (hex)",
+            Refusal::Counts => "the sheet has more than 64 jobs, or slots 0 or above 1440",
+            Refusal::Layout => {
+                "the sheet's back distances or its length do not fit its jobs and slots"
+            }
+            Refusal::Window(_) => {
+                "its release is not below its deadline, or its deadline is above slots"
+            }
+            Refusal::Work(_) => {
+                "it wants 0 slots or above 1440, its energy is 0, or its last byte is not zero"
+            }
+        })
+    }
+}
+
+impl Error for Refusal {}

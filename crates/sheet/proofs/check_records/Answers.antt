@@ -2,10 +2,10 @@
 use Rattle.std.proofs.Common.{arith, ◌<◌, ℕ, ◌≡◌, slice_index_or, take}
 use Rattle.std.proofs.lemmas.List.{get_or-take}
 use Rattle.std.proofs.lemmas.Result.{err_from_is_err_and}
-use mathlib.Core.Path.{refl, sym, ap, subst, ◌∙◌}
-use Rattle.sheet.specs.Paper.{Check, gives, in_order}
+use mathlib.Core.Path.{sym, ap, subst, ◌∙◌}
+use Rattle.sheet.specs.Paper.{gives, in_order}
 use Rattle.sheet.specs.Refusals.{record_says}
-use Rattle.sheet.specs.Table.{job_of, no_job, window_fault, work_fault}
+use Rattle.sheet.specs.Table.{no_job, window_fault, work_fault}
 use Rattle.sheet.specs.declared.Job.{Job}
 use Rattle.sheet.specs.declared.Table.{Table}
 use Rattle.sheet.proofs.Order.{Refuses, in_order_none, in_order_clear, in_order_first}

@@ -4,4 +4,4 @@ use borrow.Author.Rules.{rules}
 use Rattle.sheet.proofs.counted.Goals as goal
 
 pub returns : goal.returns
-returns c = counts_itself c.args.byte (search rules)
+returns c = search (rules, counts_itself c.args.byte (search rules))
