@@ -2,36 +2,23 @@
 // number, and the harvest as that stretch of the caller's own bytes.
 #![tactic(auto)]
 
+mod reading;
+
 ghost use Rattle.std.specs.Prelude.{◌≡◌, ◌+◌, ◌*◌, ◌-◌, ◌≤◌, ◌<◌, length, replicate};
 ghost use Rattle.sheet.specs.Table.{most_jobs};
 ghost use Rattle.sheet.specs.Sheet.{u16_at, job_in, jobs_in, slots_in, mark_fault, layout_fault, record_length, trailer_length};
-ghost use Rattle.reader.specs.Steps.{ReadsTrailer};
+ghost use Rattle.reader.specs.Steps.{ReadsTrailer, Fills, ReadsInto};
 ghost use Rattle.reader.specs.Promise.{no_table, harvest_read, Reads, harvest_behind};
 
-use sheet::{Job, Outcome, Refusal, Table};
-
-// What reading a sheet yields. Of a refused sheet the table has no jobs, slots 0 and capacity 0.
-#[derive(Clone, Copy)]
-pub struct Reading {
-    pub outcome: Outcome,
-    pub table: Table,
-}
-
-// A byte, as wide as the numbers that bytes make up.
-fn wide(byte: u8) -> u16
-    ensures { (result ≡ byte) × (result ≤ 255) }
-{
-    byte as u16
-}
+pub use reading::Reading;
+use sheet::{Job, Refusal, Table};
 
 // The number in the two bytes from `at` on, the lower first.
 fn u16_at(bytes: &[u8], at: usize) -> u16
     requires { at + 1 < length bytes.now }
     ensures { result ≡ u16_at bytes.now at }
 {
-    let low = wide(bytes[at]);
-    let high = wide(bytes[at + 1]);
-    low + 256 * high
+    u16::from_le_bytes([bytes[at], bytes[at + 1]])
 }
 
 // The job in record k.
@@ -78,53 +65,39 @@ fn layout_fault(bytes: &[u8], count: usize, slots: u16) -> bool
     length != back + sheet::TRAILER_LENGTH
 }
 
-// What the trailer says: the refusal, 1 to 4, and no jobs, slots 0 and capacity 0; or its numbers.
+// The numbers that the trailer gives.
 #[derive(Clone, Copy)]
 struct Trailer {
-    outcome: Outcome,
     count: usize,
     slots: u16,
     capacity: u16,
 }
 
-// A refusal, and no numbers.
-fn refused(why: Refusal) -> Trailer
-    ensures { result ≡ record { outcome = Outcome.Refused why; count = 0; slots = 0; capacity = 0 } }
-{
-    Trailer {
-        outcome: Outcome::Refused(why),
-        count: 0,
-        slots: 0,
-        capacity: 0,
-    }
-}
-
-// The trailer of a sheet, from any bytes at all.
-fn read_trailer(bytes: &[u8]) -> Trailer
+// The trailer of a sheet, from any bytes at all, or the refusal, 1 to 4.
+fn read_trailer(bytes: &[u8]) -> Result<Trailer, Refusal>
     ensures { ReadsTrailer bytes.now result }
 {
     let length = bytes.len();
     if length < sheet::TRAILER_LENGTH {
-        return refused(Refusal::Short);
+        return Err(Refusal::Short);
     }
     if mark_fault(bytes) {
-        return refused(Refusal::Mark);
+        return Err(Refusal::Mark);
     }
     let trailer = length - sheet::TRAILER_LENGTH;
     let count = u16_at(bytes, trailer + 4) as usize;
     let slots = u16_at(bytes, trailer + 6);
     if sheet::counts_fault(count, slots) {
-        return refused(Refusal::Counts);
+        return Err(Refusal::Counts);
     }
     if layout_fault(bytes, count, slots) {
-        return refused(Refusal::Layout);
+        return Err(Refusal::Layout);
     }
-    Trailer {
-        outcome: Outcome::Accepted,
+    Ok(Trailer {
         count,
         slots,
         capacity: u16_at(bytes, trailer + 8),
-    }
+    })
 }
 
 // As many places as a table has, with this job in each. Handed over, a job is stored whole; written
@@ -139,12 +112,7 @@ fn places(job: Job) -> [Job; sheet::MOST_JOBS]
 fn no_table() -> Table
     ensures { result ≡ no_table }
 {
-    let none = Job {
-        release: 0,
-        deadline: 0,
-        wanted: 0,
-        energy: 0,
-    };
+    let none = Job::default();
     Table {
         jobs: places(none),
         count: 0,
@@ -153,33 +121,48 @@ fn no_table() -> Table
     }
 }
 
-// Reads a sheet, from any bytes at all: the table, or the refusal, 1 to 6. It keeps nothing of the
-// harvest: `harvest` hands that back as a stretch of the sheet itself.
-pub fn read(bytes: &[u8]) -> Reading
+// Fills a table that is empty yet with what a sheet holds, up to the record that is refused, if one is.
+fn fill(bytes: &[u8], table: &mut Table) -> Result<(), Refusal>
+    requires { table.old ≡ no_table }
+    ensures { Fills bytes.now result table.new }
+{
+    let trailer = read_trailer(bytes)?;
+    for k in 0..trailer.count {
+        let job = job_in(bytes, k);
+        sheet::check_record(trailer.slots, job, bytes[sheet::RECORD_LENGTH * k + 7], k)?;
+        table.jobs[k] = job;
+    }
+    table.count = trailer.count;
+    table.slots = trailer.slots;
+    table.capacity = trailer.capacity;
+    Ok(())
+}
+
+// Reads a sheet into a table that is empty yet, and leaves it empty where the sheet is refused.
+fn read_into(bytes: &[u8], table: &mut Table) -> Result<(), Refusal>
+    requires { table.old ≡ no_table }
+    ensures { ReadsInto bytes.now result table.new }
+{
+    let outcome = fill(bytes, table);
+    if outcome.is_err() {
+        *table = no_table();
+    }
+    outcome
+}
+
+// Reads a sheet, from any bytes at all: the table and the harvest, or the refusal, 1 to 6. No byte of the
+// harvest is copied.
+pub fn read(bytes: &[u8]) -> Reading<'_>
     ensures { Reads bytes.now result }
 {
-    let trailer = read_trailer(bytes);
-    let count = trailer.count;
-    let slots = trailer.slots;
     let mut table = no_table();
-    let mut k = 0;
-    while k < count {
-        let job = job_in(bytes, k);
-        let answer = sheet::check_record(slots, job, bytes[sheet::RECORD_LENGTH * k + 7], k);
-        if let Outcome::Refused(_) = answer {
-            return Reading {
-                outcome: answer,
-                table: no_table(),
-            };
-        }
-        table.jobs[k] = job;
-        k += 1;
+    let outcome = read_into(bytes, &mut table);
+    let harvest = stretch(bytes, table.count, table.slots);
+    Reading {
+        outcome,
+        table,
+        harvest,
     }
-    table.count = count;
-    table.slots = slots;
-    table.capacity = trailer.capacity;
-    let outcome = trailer.outcome;
-    Reading { outcome, table }
 }
 
 // The stretch of `slots` bytes behind `count` records, which is the harvest where a sheet's own
@@ -200,10 +183,9 @@ pub fn stretch(bytes: &[u8], count: usize, slots: u16) -> &[u8]
 }
 
 // The harvest of a sheet, as that stretch of the caller's own bytes; an empty stretch where the
-// sheet is refused. Whoever has read the sheet already asks `stretch` instead.
+// sheet is refused. Whoever has read the sheet already has it in the reading.
 pub fn harvest(bytes: &[u8]) -> &[u8]
     ensures { result.now ≡ harvest_read bytes.now }
 {
-    let reading = read(bytes);
-    stretch(bytes, reading.table.count, reading.table.slots)
+    read(bytes).harvest
 }

@@ -1,20 +1,15 @@
--- The loop keeps: no record before k refuses, and the jobs before k stand in their places.
-use native.Mathlib.Omega.{arith}
-use Rattle.reader.proofs.Records.{read_none, read_more, record_refuses, records_good}
-use borrow.Author.Rules.{rules}
+-- The answer, the table and the harvest are the sheet's.
+use Rattle.reader.proofs.Harvesting.{the_answer, the_table, the_harvest, the_good_day}
 use Rattle.reader.proofs.read.Goals as goal
 
-pub returns-in-Refused : goal.returns-in-Refused
-returns-in-Refused c = search record_refuses
-
-pub loop-k-preserved : goal.loop-k-preserved
-loop-k-preserved c = (
-  search rules,
-  read_more _ _ _ _ c.job_in-job.ensures _ c.check_record-answer.ensures _ c.loop-k.invariant.1 c.in_default.is (search rules),
-)
+pub invariant_of-result : goal.invariant_of-result
+invariant_of-result c = record { good = the_good_day _ _ _ c.read_into-outcome.ensures _ c.stretch-harvest.ensures }
 
 pub returns : goal.returns
-returns c = records_good _ _ c.read_trailer-trailer.ensures _ _ c.loop-k.invariant.1 (omega arith)
-
-pub loop-k-init : goal.loop-k-init
-loop-k-init c = (search rules, search read_none)
+returns c =
+    let read = c.read_into-outcome.ensures in
+    record {
+      answer = the_answer _ _ _ read _ c.stretch-harvest.ensures;
+      table = the_table _ _ _ read _ c.stretch-harvest.ensures;
+      harvest = the_harvest _ _ _ read _ c.stretch-harvest.ensures;
+    }
