@@ -2,13 +2,13 @@
 use Prim.Native.Nat.{ℕ, zero, suc, min, ◌+◌, ◌-◌, ◌≤◌, ◌<◌}
 use mathlib.Core.Path.{◌≡◌, refl, sym, ap, ◌∙◌, subst}
 use mathlib.Core.Bool.{Bool, true, false, cond, not, ◌||◌}
-use mathlib.Core.List.{List, [], ◌∷◌}
-use native.Mathlib.Nat.{not-suc-le-zero}
+use mathlib.Core.List.{List}
 use native.Mathlib.Numerals.{add-one}
 use native.Mathlib.Omega.{arith}
 use lib.Dec.{ltb, eqb}
 use lib.ListN.{length, get_or}
 use borrow.Author.Tests.{lt-ltb, le-ltb, eq-eqb, ne_eqb}
+use Rattle.std.proofs.lemmas.List.{get_or_default}
 use Rattle.sheet.specs.Paper.{Check, gives, ◌when◌, ◌else◌, in_order}
 use Rattle.sheet.specs.Sums.{harvest_at}
 use Rattle.sheet.specs.Table.{most_jobs, idle_byte, start_level, job_of, Day}
@@ -128,6 +128,4 @@ ends_decide d plan got clear kept =
 -- ---- a byte that stands in the plan
 
 pub byte_stands : (plan : List ℕ) (i z : ℕ) → i < length plan → get_or plan i z ≡ byte_of plan i
-byte_stands [] i z h = absurd (not-suc-le-zero h)
-byte_stands (x ∷ plan) zero z h = refl
-byte_stands (x ∷ plan) (suc i) z h = byte_stands plan i z (omega arith)
+byte_stands plan i z h = get_or_default plan i z idle_byte h

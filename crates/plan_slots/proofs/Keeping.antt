@@ -6,6 +6,7 @@ use native.Mathlib.Decide.{ℕ_discrete}
 use native.Mathlib.Omega.{arith}
 use lib.ListN.{length, get_or, set, replicate, length-set}
 use lib.Seq.{get_or-set_same, get_or-set_other}
+use Rattle.std.specs.Prelude.{Ok}
 use Rattle.sheet.specs.Paper.{gives, in_order}
 use Rattle.sheet.specs.Sums.{harvest_at}
 use Rattle.sheet.specs.Table.{most_jobs, idle_byte, start_level, job_of, Day}
@@ -17,8 +18,6 @@ use Rattle.plan_slots.specs.Steps.{JobLeaves, ends_by}
 use Rattle.plan_slots.specs.Numbers.{fault_says}
 use Rattle.plan_slots.specs.declared.PlanFault.{PlanFault}
 use Rattle.plan_slots.specs.declared.PlanFault.TheVariants.{NoJob}
-use Rattle.plan_slots.specs.declared.Passed.{Passed}
-use Rattle.plan_slots.specs.declared.Passed.TheVariants.{Level, Fault}
 use Rattle.plan_slots.proofs.Judging.{got_none, got_here, got_not_here, level_first, idle_says, idle_level, idle_got, stranger_says, busy_says, busy_level, first_refused, ends_decide, byte_stands}
 use Rattle.plan_slots.proofs.SlotOrder.{fault_refuses}
 
@@ -38,86 +37,74 @@ kept_first d plan =
       clear = in_order_none _;
     }
 
--- ---- slot i of the day, with its byte and its charge as the code reads them
+-- ---- slot i of the day, with what is kept as it begins, and its byte and its charge as the code reads them
 
-pub record SlotRead (d : Day) (plan : List ℕ) (level i byte charge : ℕ) : Type 0 where
+pub record SlotRead (d : Day) (plan got : List ℕ) (level i byte charge : ℕ) : Type 0 where
+  pub few_jobs : d.table.count ≤ most_jobs
+  pub kept : Kept d plan got level i
   pub in_day : i < d.table.slots
   pub in_plan : i < length plan
   pub byte_is : byte ≡ get_or plan i 0
   pub charge_is : charge ≡ level + harvest_at d.harvest i
 
--- slot i leaves what is kept as the next begins, or the answer
-abbrev pub Leaves : Day → List ℕ → ℕ → List ℕ → Passed → Type 0
-Leaves d plan i after (Level level) = Kept d plan after level (i + 1)
-Leaves d plan i after (Fault f) = fault_says f ≡ slots_say d plan
-
-module _ (d : Day) (plan got : List ℕ) (level i byte charge : ℕ) (few : d.table.count ≤ most_jobs) (kept : Kept d plan got level i)
-    (read : SlotRead d plan level i byte charge) where
+module _ {d : Day} {plan got : List ℕ} {level i byte charge : ℕ} (read : SlotRead d plan got level i byte charge) where
   its_byte : byte ≡ byte_of plan i
   its_byte = read.byte_is ∙ byte_stands plan i 0 read.in_plan
 
   its_charge : charge ≡ level_at d plan i + harvest_at d.harvest i
-  its_charge = read.charge_is ∙ ap (λ (n : ℕ). n + harvest_at d.harvest i) kept.level_is
+  its_charge = read.charge_is ∙ ap (λ (n : ℕ). n + harvest_at d.harvest i) read.kept.level_is
 
   pub kept_idle : (level' : ℕ) → byte ≡ idle_byte → level' ≡ min d.table.capacity charge → Kept d plan got level' (i + 1)
   kept_idle level' idle e =
       let named = sym its_byte ∙ idle in
       record {
-        level_is = e ∙ ap (min d.table.capacity) its_charge ∙ sym (idle_level d plan i few named);
-        got_long = kept.got_long;
-        got_is = λ k h. kept.got_is k h ∙ sym (idle_got d plan i few named k h);
-        clear = in_order_clear (slot_says d plan) i kept.clear (idle_says d plan i few named);
+        level_is = e ∙ ap (min d.table.capacity) its_charge ∙ sym (idle_level d plan i read.few_jobs named);
+        got_long = read.kept.got_long;
+        got_is = λ k h. read.kept.got_is k h ∙ sym (idle_got d plan i read.few_jobs named k h);
+        clear = in_order_clear (slot_says d plan) i read.kept.clear (idle_says d plan i read.few_jobs named);
       }
 
   pub refused_stranger : (byte ≡ idle_byte → ⊥) → d.table.count ≤ byte → fault_says (NoJob i) ≡ slots_say d plan
   refused_stranger busy h =
       let e = its_byte in
       sym
-      (first_refused d plan i (fault_says (NoJob i)) read.in_day kept.clear
+      (first_refused d plan i (fault_says (NoJob i)) read.in_day read.kept.clear
       (stranger_says d plan i (λ q. busy (e ∙ q)) (subst (λ (n : ℕ). d.table.count ≤ n) e h)) tt)
 
   -- ---- a slot that names a job
 
   module _ (h : byte < d.table.count) where
     slot_says_lem : job_says (job_of d.table byte) i (get_or got byte 0) charge ≡ slot_says d plan i
-    slot_says_lem = ap₂ (job_says (job_of d.table byte) i) (kept.got_is byte h) its_charge ∙ sym (busy_says d plan i byte h (sym its_byte))
+    slot_says_lem = ap₂ (job_says (job_of d.table byte) i) (read.kept.got_is byte h) its_charge ∙ sym (busy_says d plan i byte h (sym its_byte))
 
-    refused_job : (f : PlanFault) → fault_says f ≡ job_says (job_of d.table byte) i (get_or got byte 0) charge → fault_says f ≡ slots_say d plan
-    refused_job f said = sym (first_refused d plan i (fault_says f) read.in_day kept.clear (sym (said ∙ slot_says_lem)) (fault_refuses f))
+    pub refused_job : (f : PlanFault) → fault_says f ≡ job_says (job_of d.table byte) i (get_or got byte 0) charge → fault_says f ≡ slots_say d plan
+    refused_job f said = sym (first_refused d plan i (fault_says f) read.in_day read.kept.clear (sym (said ∙ slot_says_lem)) (fault_refuses f))
 
     got_stored : (m : ℕ) → m < d.table.count → get_or (set got byte (get_or got byte 0 + 1)) m 0 ≡ slots_got plan m (i + 1)
     got_stored m l =
-        let long = kept.got_long in
+        let long = read.kept.got_long in
         elim (ℕ_discrete m byte) [
           | yes e ↦
               subst (λ (n : ℕ). get_or (set got byte (get_or got byte 0 + 1)) n 0 ≡ slots_got plan n (i + 1)) (sym e)
               (get_or-set_same got byte (get_or got byte 0 + 1) 0 (omega arith)
-              ∙ ap (λ (n : ℕ). n + 1) (kept.got_is byte h)
+              ∙ ap (λ (n : ℕ). n + 1) (read.kept.got_is byte h)
               ∙ sym (got_here plan byte i (sym its_byte)))
-          | no e ↦ get_or-set_other got byte m (get_or got byte 0 + 1) 0 e ∙ kept.got_is m l ∙ sym (got_not_here plan m i (λ q. e (sym (its_byte ∙ q))))
+          | no e ↦ get_or-set_other got byte m (get_or got byte 0 + 1) 0 e ∙ read.kept.got_is m l ∙ sym (got_not_here plan m i (λ q. e (sym (its_byte ∙ q))))
         ]
 
-    kept_busy : job_says (job_of d.table byte) i (get_or got byte 0) charge ≡ gives tt → (level' : ℕ)
-        → level' ≡ min d.table.capacity (charge - (job_of d.table byte).energy) → Kept d plan (set got byte (get_or got byte 0 + 1)) level' (i + 1)
-    kept_busy nothing level' e =
-        record {
+    pub kept_busy : (after level' : ℕ) → JobLeaves (job_of d.table byte) i d.table.capacity charge (get_or got byte 0) after (Ok level')
+        → Kept d plan (set got byte after) level' (i + 1)
+    kept_busy after level' (nothing, more, e) =
+        subst (λ (n : ℕ). Kept d plan (set got byte n) level' (i + 1)) (sym more)
+        (record {
           level_is = e ∙ ap (λ (n : ℕ). min d.table.capacity (n - (job_of d.table byte).energy)) its_charge ∙ sym (busy_level d plan i byte h (sym its_byte));
-          got_long = length-set got byte _ ∙ kept.got_long;
+          got_long = length-set got byte _ ∙ read.kept.got_long;
           got_is = got_stored;
-          clear = in_order_clear (slot_says d plan) i kept.clear (sym slot_says_lem ∙ nothing);
-        }
-
-    -- it leaves what is kept as the next begins, or the answer
-    pub job_leaves : (after : List ℕ) (found passed : Passed) → JobLeaves (job_of d.table byte) byte i d.table.capacity charge got after found
-        → found ≡ passed → Leaves d plan i after passed
-    job_leaves after found passed left told = subst (Leaves d plan i after) told (go found left)
-      where
-        go : (p : Passed) → JobLeaves (job_of d.table byte) byte i d.table.capacity charge got after p → Leaves d plan i after p
-        go (Level level') (nothing, stored, e) = subst (λ (a : List ℕ). Kept d plan a level' (i + 1)) (sym stored) (kept_busy nothing level' e)
-        go (Fault f) said = refused_job f said
+          clear = in_order_clear (slot_says d plan) i read.kept.clear (sym slot_says_lem ∙ nothing);
+        })
 
 -- after the last slot
-pub kept_decides : (d : Day) (plan got : List ℕ) (level i : ℕ) → Kept d plan got level i → i ≡ d.table.slots → ends_by d.table got ≡ slots_say d plan
-kept_decides d plan got level i kept at_end =
+pub kept_decides : {d : Day} {plan got : List ℕ} {level i : ℕ} → Kept d plan got level i → i ≡ d.table.slots → ends_by d.table got ≡ slots_say d plan
+kept_decides {d} {plan} {got} kept at_end =
     ends_decide d plan got (subst (λ (n : ℕ). in_order (slot_says d plan) n ≡ gives tt) at_end kept.clear)
     (λ k h. kept.got_is k h ∙ ap (slots_got plan k) at_end)

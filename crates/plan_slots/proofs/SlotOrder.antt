@@ -6,6 +6,7 @@ use mathlib.Core.List.{List}
 use mathlib.Core.Logic.{◌↔◌, ◌⊎◌, inl, inr, ⊎_elim}
 use lib.Dec.{ltb, leb, eqb}
 use borrow.Author.Tests.{le-ltb, lt-leb, ne_eqb, ltb-false, leb-false, eqb-false, not-true}
+use Rattle.std.specs.Prelude.{⊤, Result, Ok, Err}
 use Rattle.sheet.specs.Paper.{Check, gives, refuses, refuses_at, ◌when◌, ◌else◌, in_order, number_of}
 use Rattle.sheet.specs.Sums.{harvest_at}
 use Rattle.sheet.specs.Table.{idle_byte, job_of, Day}
@@ -17,8 +18,6 @@ use Rattle.plan_slots.specs.Plan.{byte_of, names_job, slots_got, level_at}
 use Rattle.plan_slots.specs.Slots.{names_nothing, outside_window, has_all_slots, lacks_charge, job_says, slot_says}
 use Rattle.plan_slots.specs.declared.PlanFault.{PlanFault}
 use Rattle.plan_slots.specs.declared.PlanFault.TheVariants.{WrongLength, NoJob, OutsideWindow, HasAllSlots, LacksCharge, LacksSlots}
-use Rattle.plan_slots.specs.declared.Finding.{Finding}
-use Rattle.plan_slots.specs.declared.Finding.TheVariants.{Nothing, Fault}
 
 -- a slot's refusals by the turn that they have in it, 12 first
 abbrev pub fault_at : ℕ → ℕ → PlanFault
@@ -128,11 +127,11 @@ pub fault_one : (f g : PlanFault) → fault_says f ≡ fault_says g → f ≡ g
 fault_one f g e = sym (fault_meant_lem f) ∙ ap fault_meant e ∙ fault_meant_lem g
 
 -- and any two findings of which the same is said
-pub one_finding : (x y : Finding) → finding_says x ≡ finding_says y → x ≡ y
-one_finding Nothing Nothing e = refl
-one_finding Nothing (Fault g) e = absurd (fault_not_given g (sym e))
-one_finding (Fault f) Nothing e = absurd (fault_not_given f e)
-one_finding (Fault f) (Fault g) e = ap Fault (fault_one f g e)
+pub one_finding : (x y : Result ⊤ PlanFault) → finding_says x ≡ finding_says y → x ≡ y
+one_finding (Ok done) (Ok all) e = refl
+one_finding (Ok done) (Err g) e = absurd (fault_not_given g (sym e))
+one_finding (Err f) (Ok done) e = absurd (fault_not_given f e)
+one_finding (Err f) (Err g) e = ap Err (fault_one f g e)
 
 -- ---- the tests in words
 

@@ -4,16 +4,15 @@
 
 ghost use Rattle.std.specs.Prelude.{◌≡◌, ◌&&◌, ltb, leb, length, ◌<◌, ◌≤◌};
 ghost use Rattle.sheet.specs.Paper.{number_of, place_of};
-ghost use Rattle.sheet.specs.Table.{most_jobs, day_of};
-ghost use Rattle.sheet.specs.WellFormed.{GoodDay};
+ghost use Rattle.sheet.specs.Checked.{the_day};
 ghost use Rattle.plan_slots.specs.Numbers.{fault_says, finding_says};
 ghost use Rattle.plan_slots.specs.Slots.{slots_say};
 ghost use Rattle.plan_slots.specs.Steps.{JobLeaves, ends_by};
 
-use sheet::{Job, Table};
+use sheet::{CheckedDay, Job};
 
 // Why a plan is refused, with the slot, and for 16 the job, that document 01 names.
-#[derive(Clone, Copy)]
+#[derive(Clone, Copy, Debug, PartialEq, Eq)]
 pub enum PlanFault {
     // 11: the plan is not of slots bytes
     WrongLength,
@@ -61,99 +60,69 @@ pub fn place(fault: PlanFault) -> usize
 fn may_run(j: Job, slot: usize) -> bool
     ensures { result ≡ (leb j.release slot && ltb slot j.deadline) }
 {
-    if slot < j.release as usize {
-        return false;
-    }
-    slot < j.deadline as usize
+    j.release as usize <= slot && slot < j.deadline as usize
 }
 
-// What is found of a slot.
-#[derive(Clone, Copy)]
-enum Passed {
-    // The level as the next slot begins.
-    Level(u16),
-    // The fault that ends the pass.
-    Fault(PlanFault),
-}
-
-// A slot of job j, number k below 64, which finds that much charge: 13, 14 and 15, and where none of
-// them applies the job gets the slot.
+// A slot of job j, which got that many slots before and finds that much charge: 13, 14 and 15, and where
+// none of them applies the job gets the slot, and the answer is the level as the next slot begins.
 fn judge_job(
     j: Job,
-    k: usize,
     slot: usize,
     capacity: u16,
     charge: u32,
-    got: &mut [u16; sheet::MOST_JOBS],
-) -> Passed
-    requires { k < most_jobs }
-    ensures { JobLeaves j k slot capacity charge got.old got.new result }
+    got: &mut u16,
+) -> Result<u16, PlanFault>
+    ensures { JobLeaves j slot capacity charge got.old got.new result }
 {
-    let had = got[k];
+    let had = *got;
     let wanted = j.wanted;
-    let needed = sheet::widened(j.energy);
+    let needed = u32::from(j.energy);
     if !may_run(j, slot) {
-        return Passed::Fault(PlanFault::OutsideWindow(slot));
+        return Err(PlanFault::OutsideWindow(slot));
     }
     if wanted <= had {
-        return Passed::Fault(PlanFault::HasAllSlots(slot));
+        return Err(PlanFault::HasAllSlots(slot));
     }
     if charge < needed {
-        return Passed::Fault(PlanFault::LacksCharge(slot));
+        return Err(PlanFault::LacksCharge(slot));
     }
-    got[k] = had + 1;
-    Passed::Level(sheet::cut(capacity, charge - needed))
+    *got = had + 1;
+    Ok(sheet::cut(capacity, charge - needed))
 }
 
-// What is found of a part of a plan.
-#[derive(Clone, Copy)]
-pub enum Finding {
-    Nothing,
-    Fault(PlanFault),
-}
-
-// 16: the lowest job that got fewer slots than it wants. The table has at most 64 jobs.
-fn judge_ends(t: Table, got: &[u16; sheet::MOST_JOBS]) -> Finding
-    requires { t.count ≤ most_jobs }
-    ensures { finding_says result ≡ ends_by t got.now }
+// 16: the lowest job that got fewer slots than it wants.
+fn judge_ends(day: CheckedDay, got: &[u16; sheet::MOST_JOBS]) -> Result<(), PlanFault>
+    ensures { finding_says result ≡ ends_by day.entry.table.now got.now }
 {
-    let count = t.count;
-    let mut k = 0;
-    while k < count {
-        if got[k] < t.jobs[k].wanted {
-            return Finding::Fault(PlanFault::LacksSlots(k));
+    for k in 0..day.table.count {
+        if got[k] < day.table.jobs[k].wanted {
+            return Err(PlanFault::LacksSlots(k));
         }
-        k += 1;
     }
-    Finding::Nothing
+    Ok(())
 }
 
-// 12 to 16, in one pass over a plan: the slots that each job got so far and the level are carried
-// along. Only for a day that was checked, with a plan of slots bytes; `judge` calls it so, and nobody
-// else.
-pub fn judge_slots(t: Table, harvest: &[u8], plan: &[u8]) -> Finding
-    requires { GoodDay (day_of t harvest.now) × (length plan.now ≡ t.slots) }
-    ensures { finding_says result ≡ slots_say (day_of t harvest.now) plan.now }
+// 12 to 16, in one pass over a plan of slots bytes: the slots that each job got so far and the level are
+// carried along. `judge` calls it so, and nobody else.
+pub fn judge_slots(day: CheckedDay, plan: &[u8]) -> Result<(), PlanFault>
+    requires { length plan.now ≡ day.table.now.slots }
+    ensures { finding_says result ≡ slots_say (the_day day.entry) plan.now }
 {
     let mut got = [0u16; sheet::MOST_JOBS];
-    let count = t.count;
-    let capacity = t.capacity;
+    let table = day.table;
+    let capacity = table.capacity;
     let mut level = capacity;
-    for i in 0..plan.len() {
-        let byte = plan[i];
-        let charge = sheet::wide(level) + sheet::wide(sheet::counted(harvest[i]));
+    for (i, &byte) in plan.iter().enumerate() {
+        let charge = u32::from(level) + u32::from(sheet::counted(day.harvest[i]));
         if byte == sheet::IDLE {
             level = sheet::cut(capacity, charge);
             continue;
         }
         let k = byte as usize;
-        if count <= k {
-            return Finding::Fault(PlanFault::NoJob(i));
+        if table.count <= k {
+            return Err(PlanFault::NoJob(i));
         }
-        match judge_job(t.jobs[k], k, i, capacity, charge, &mut got) {
-            Passed::Level(next) => level = next,
-            Passed::Fault(fault) => return Finding::Fault(fault),
-        }
+        level = judge_job(table.jobs[k], i, capacity, charge, &mut got[k])?;
     }
-    judge_ends(t, &got)
+    judge_ends(day, &got)
 }
