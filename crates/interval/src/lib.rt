@@ -2,12 +2,32 @@
 #![tactic(auto)]
 
 ghost use Rattle.std.specs.Prelude.{◌≡◌, ◌&&◌, leb};
+ghost use Rattle.interval.specs.Kinds.{IsOfKind};
 
 // The two kinds of demand: slots of time, and charge.
-#[derive(Clone, Copy)]
+#[derive(Clone, Copy, Debug, PartialEq, Eq)]
 pub enum Kind {
     Time,
     Energy,
+}
+
+// A number that no kind has.
+#[derive(Clone, Copy, Debug, PartialEq, Eq)]
+pub struct NoKind(pub u64);
+
+impl TryFrom<u64> for Kind {
+    type Error = NoKind;
+
+    ghost try_from_gives = { IsOfKind };
+
+    // The kind of that number in document 01, 0 for time and 1 for energy.
+    fn try_from(number: u64) -> Result<Kind, NoKind> {
+        match number {
+            0 => Ok(Kind::Time),
+            1 => Ok(Kind::Energy),
+            _ => Err(NoKind(number)),
+        }
+    }
 }
 
 // A job with this release and deadline is one of the interval's: released at or after its start, and

@@ -3,51 +3,83 @@
 // sheet and what demand is, and nothing of the search, the run or the planner.
 #![tactic(auto)]
 
-ghost use Rattle.std.specs.Prelude.{◌≡◌, length, List, ℕ, ◌<◌, ◌≤◌};
-ghost use Rattle.sheet.specs.HandedIn.{on_sheet, on_table};
+ghost use Rattle.std.specs.Prelude.{◌≡◌, length, ◌<◌, ◌≤◌};
+ghost use Rattle.sheet.specs.Checked.{Checks, the_day};
+ghost use Rattle.sheet.specs.HandedIn.{HandedIn, on_sheet, on_table};
 ghost use Rattle.sheet.specs.Paper.{number_of};
 ghost use Rattle.sheet.specs.Sums.{harvest_of, most_harvest, most_cost};
-ghost use Rattle.sheet.specs.Table.{most_jobs, most_slots, day_of};
-ghost use Rattle.sheet.specs.WellFormed.{GoodDay};
+ghost use Rattle.sheet.specs.Table.{most_slots};
 ghost use Rattle.interval.specs.Demand.{share_of, demand_of};
-ghost use Rattle.judge.specs.Judge.{claim_fault, kind_of, sums_of};
+ghost use Rattle.judge.specs.Judge.{sums_of};
 ghost use Rattle.judge.specs.Promise.{claim_answered, JudgesPlan, JudgesClaim};
+ghost use Rattle.judge.specs.Steps.{Names};
+ghost use Rattle.judge.specs.declared.PlanRefusal.{PlanRefusal};
+ghost use Rattle.judge.specs.declared.ClaimRefusal.{ClaimRefusal};
 
-use interval::Kind;
-use plan_slots::Finding;
+use interval::{Kind, NoKind};
 pub use plan_slots::{PlanFault, number, place};
-use sheet::{Job, Outcome, Refusal, Table};
+use sheet::{CheckedDay, Job, Refusal, Table};
+use std::error::Error;
+use std::fmt;
 
-// The answer to a plan.
-#[derive(Clone, Copy)]
-pub enum JudgedPlan {
+// Why a plan is not accepted. A plan is accepted where every job gets its slots inside its window, no more and
+// no fewer, every slot is idle or names a job, and no busy slot lacks charge, the reservoir starting full.
+#[derive(Clone, Copy, Debug, PartialEq, Eq)]
+pub enum PlanRefusal {
     // The sheet, the table or the harvest is refused: 1 to 6.
-    Refused(Refusal),
+    HandedIn(Refusal),
     // The plan is refused: 11 to 16.
-    Faulty(PlanFault),
-    // Every job gets its slots inside its window, no more and no fewer, every slot is idle or names
-    // a job, and no busy slot lacks charge, the reservoir starting full.
-    Accepted,
+    Plan(PlanFault),
+}
+
+impl From<Refusal> for PlanRefusal {
+    ghost from_gives = { λ why r. r ≡ PlanRefusal.HandedIn why };
+
+    fn from(why: Refusal) -> PlanRefusal {
+        PlanRefusal::HandedIn(why)
+    }
+}
+
+impl From<PlanFault> for PlanRefusal {
+    ghost from_gives = { λ fault r. r ≡ PlanRefusal.Plan fault };
+
+    fn from(fault: PlanFault) -> PlanRefusal {
+        PlanRefusal::Plan(fault)
+    }
 }
 
 // What was weighed: the demand and the supply of the claimed interval, in the claimed kind.
-#[derive(Clone, Copy)]
+#[derive(Clone, Copy, Debug, PartialEq, Eq)]
 pub struct Sums {
     pub demand: u32,
     pub supply: u32,
 }
 
-// The answer to a claim.
-#[derive(Clone, Copy)]
-pub enum JudgedClaim {
+// Why a claim is not accepted. It is accepted where the demand is above the supply.
+#[derive(Clone, Copy, Debug, PartialEq, Eq)]
+pub enum ClaimRefusal {
     // The sheet, the table or the harvest is refused: 1 to 6.
-    Refused(Refusal),
+    HandedIn(Refusal),
     // 17: the kind is neither 0 nor 1, the start is not below the end, or the end is above slots.
     NoInterval,
     // 18: the demand is not above the supply.
     NotOverloaded(Sums),
-    // The demand is above the supply.
-    Accepted(Sums),
+}
+
+impl From<Refusal> for ClaimRefusal {
+    ghost from_gives = { λ why r. r ≡ ClaimRefusal.HandedIn why };
+
+    fn from(why: Refusal) -> ClaimRefusal {
+        ClaimRefusal::HandedIn(why)
+    }
+}
+
+impl From<NoKind> for ClaimRefusal {
+    ghost from_gives = { λ _ r. r ≡ ClaimRefusal.NoInterval };
+
+    fn from(_number: NoKind) -> ClaimRefusal {
+        ClaimRefusal::NoInterval
+    }
 }
 
 // The numbers in document 01 of a claim's two refusals.
@@ -56,56 +88,44 @@ pub const NO_INTERVAL: u8 = 17;
 pub const NOT_OVERLOADED: u8 = 18;
 
 // The number in document 01 of the answer to a claim; 0 where it is accepted.
-pub fn claim_number(answer: JudgedClaim) -> u8
+pub fn claim_number(answer: Result<Sums, ClaimRefusal>) -> u8
     ensures { result ≡ number_of (claim_answered answer) }
 {
     match answer {
-        JudgedClaim::Refused(why) => sheet::number(why),
-        JudgedClaim::NoInterval => NO_INTERVAL,
-        JudgedClaim::NotOverloaded(_) => NOT_OVERLOADED,
-        JudgedClaim::Accepted(_) => 0,
+        Err(ClaimRefusal::HandedIn(why)) => sheet::number(why),
+        Err(ClaimRefusal::NoInterval) => NO_INTERVAL,
+        Err(ClaimRefusal::NotOverloaded(_)) => NOT_OVERLOADED,
+        Ok(_) => 0,
     }
 }
 
-// 11 to 16, for a table and a harvest that were checked.
-fn judge_plan(t: Table, harvest: &[u8], plan: &[u8]) -> JudgedPlan
-    requires { GoodDay (day_of t harvest.now) }
-    ensures { JudgesPlan (on_table t harvest.now) plan.now result }
+// The answer to a plan, for whatever was handed in and checked: its refusal, or 11 to 16.
+fn judge_plan(checked: Result<CheckedDay, Refusal>, plan: &[u8]) -> Result<(), PlanRefusal>
+    ensures { (h : HandedIn) → Checks h checked.entry → JudgesPlan h plan.now result }
 {
-    if plan.len() != t.slots as usize {
-        return JudgedPlan::Faulty(PlanFault::WrongLength);
+    let day = checked?;
+    if plan.len() != day.table.slots as usize {
+        return Err(PlanRefusal::Plan(PlanFault::WrongLength));
     }
-    match plan_slots::judge_slots(t, harvest, plan) {
-        Finding::Nothing => JudgedPlan::Accepted,
-        Finding::Fault(fault) => JudgedPlan::Faulty(fault),
-    }
+    plan_slots::judge_slots(day, plan)?;
+    Ok(())
 }
 
 // Judges a plan, one byte a slot, the job's number or 255 for idle, against a table and its harvest.
 // It takes any table, harvest and plan; it refuses 3, 4, 5 and 6 as every call does, then the plan by
 // 11 to 16, and otherwise accepts it. It writes nothing.
-pub fn plan_on_table(t: Table, harvest: &[u8], plan: &[u8]) -> JudgedPlan
+pub fn plan_on_table(t: Table, harvest: &[u8], plan: &[u8]) -> Result<(), PlanRefusal>
     ensures { JudgesPlan (on_table t harvest.now) plan.now result }
 {
-    let outcome = sheet::check(t, harvest);
-    if let Outcome::Refused(why) = outcome {
-        return JudgedPlan::Refused(why);
-    }
-    judge_plan(t, harvest, plan)
+    judge_plan(CheckedDay::new(&t, harvest), plan)
 }
 
 // Judges a plan against a sheet, from any bytes: the same, with the sheet's own refusals 1 to 6 first.
-pub fn plan_on_sheet(bytes: &[u8], plan: &[u8]) -> JudgedPlan
+pub fn plan_on_sheet(bytes: &[u8], plan: &[u8]) -> Result<(), PlanRefusal>
     ensures { JudgesPlan (on_sheet bytes.now) plan.now result }
 {
     let reading = reader::read(bytes);
-    let outcome = reading.outcome;
-    if let Outcome::Refused(why) = outcome {
-        return JudgedPlan::Refused(why);
-    }
-    let t = reading.table;
-    let harvest = reader::stretch(bytes, t.count, t.slots);
-    judge_plan(t, harvest, plan)
+    judge_plan(reading.day(), plan)
 }
 
 // The kinds of a claim, by their numbers.
@@ -113,53 +133,52 @@ pub const TIME: u64 = 0;
 
 pub const ENERGY: u64 = 1;
 
-// 17 applies: the kind is neither 0 nor 1, the start is not below the end, or the end is above slots.
-fn claim_fault(slots: u16, kind: u64, start: u64, end: u64) -> bool
-    ensures { result ≡ claim_fault slots kind start end }
-{
-    if ENERGY < kind {
-        return true;
-    }
-    if end <= start {
-        return true;
-    }
-    (slots as u64) < end
+// The interval that a claim is for: a kind, and the slots `from` up to, not including, `to`.
+#[derive(Clone, Copy)]
+struct Claimed {
+    kind: Kind,
+    from: u16,
+    to: u16,
 }
 
-// The kind of that number, 0 or 1.
-fn kind_of(kind: u64) -> Kind
-    ensures { result ≡ kind_of kind }
+// The interval that a claim's numbers name on a day of so many slots; 17 where the kind is neither 0 nor 1,
+// the start is not below the end, or the end is above slots.
+fn claimed(slots: u16, kind: u64, start: u64, end: u64) -> Result<Claimed, ClaimRefusal>
+    ensures { Names slots kind start end result }
 {
-    if kind == TIME {
-        Kind::Time
-    } else {
-        Kind::Energy
+    let kind = Kind::try_from(kind)?;
+    if end <= start {
+        return Err(ClaimRefusal::NoInterval);
     }
+    if u64::from(slots) < end {
+        return Err(ClaimRefusal::NoInterval);
+    }
+    Ok(Claimed {
+        kind,
+        from: start as u16,
+        to: end as u16,
+    })
 }
 
 // What a job of an interval adds to its demand: its slots wanted, or what they cost.
-fn share(kind: Kind, j: Job) -> u32
-    ensures { (result ≡ share_of kind j) × (result ≤ most_cost) }
+fn share(kind: Kind, j: &Job) -> u32
+    ensures { (result ≡ share_of kind j.now) × (result ≤ most_cost) }
 {
     match kind {
-        Kind::Time => sheet::wide(j.wanted),
+        Kind::Time => u32::from(j.wanted),
         Kind::Energy => sheet::cost(j.wanted, j.energy),
     }
 }
 
-// The demand of an interval, in one kind. The table has at most 64 jobs.
-fn demand_of(t: Table, kind: Kind, from: u16, to: u16) -> u32
-    requires { t.count ≤ most_jobs }
-    ensures { (harvest : List ℕ) → result ≡ demand_of kind (day_of t harvest) from to }
+// The demand of an interval, in its kind.
+fn demand_of(day: CheckedDay, claim: Claimed) -> u32
+    ensures { result ≡ demand_of claim.kind (the_day day.entry) claim.from claim.to }
 {
-    let count = t.count;
     let mut demand: u32 = 0;
-    let mut k = 0;
-    while k < count {
-        if interval::is_within(from, to, t.jobs[k].release, t.jobs[k].deadline) {
-            demand += share(kind, t.jobs[k]);
+    for job in &day.table.jobs[..day.table.count] {
+        if interval::is_within(claim.from, claim.to, job.release, job.deadline) {
+            demand += share(claim.kind, job);
         }
-        k += 1;
     }
     demand
 }
@@ -170,41 +189,44 @@ fn harvest_of(harvest: &[u8], from: usize, to: usize) -> u32
     ensures { (result ≡ harvest_of harvest.now from to) × (result ≤ most_harvest) }
 {
     let mut sum: u32 = 0;
-    let mut i = from;
-    while i < to {
-        sum += sheet::wide(sheet::counted(harvest[i]));
-        i += 1;
+    for &byte in &harvest[from..to] {
+        sum += u32::from(sheet::counted(byte));
     }
     sum
 }
 
-// The demand and the supply of an interval of the day, in one kind. The table and the harvest were
-// checked.
-fn weigh(t: Table, harvest: &[u8], kind: Kind, from: u16, to: u16) -> Sums
-    requires { GoodDay (day_of t harvest.now) × (from < to) × (to ≤ t.slots) }
-    ensures { result ≡ sums_of kind (day_of t harvest.now) from to }
+// The demand and the supply of an interval of the day, in its kind.
+fn weigh(day: CheckedDay, claim: Claimed) -> Sums
+    requires { (claim.from < claim.to) × (claim.to ≤ day.table.now.slots) }
+    ensures { result ≡ sums_of claim.kind (the_day day.entry) claim.from claim.to }
 {
-    let demand = demand_of(t, kind, from, to);
-    let supply = match kind {
-        Kind::Time => sheet::wide(to - from),
-        Kind::Energy => sheet::wide(t.capacity) + harvest_of(harvest, from as usize, to as usize),
+    let demand = demand_of(day, claim);
+    let supply = match claim.kind {
+        Kind::Time => u32::from(claim.to - claim.from),
+        Kind::Energy => {
+            u32::from(day.table.capacity)
+                + harvest_of(day.harvest, usize::from(claim.from), usize::from(claim.to))
+        }
     };
     Sums { demand, supply }
 }
 
-// 17 and 18, for a table and a harvest that were checked.
-fn judge_claim(t: Table, harvest: &[u8], kind: u64, start: u64, end: u64) -> JudgedClaim
-    requires { GoodDay (day_of t harvest.now) }
-    ensures { JudgesClaim (on_table t harvest.now) kind start end result }
+// The answer to a claim, for whatever was handed in and checked: its refusal, or 17, or 18.
+fn judge_claim(
+    checked: Result<CheckedDay, Refusal>,
+    kind: u64,
+    start: u64,
+    end: u64,
+) -> Result<Sums, ClaimRefusal>
+    ensures { (h : HandedIn) → Checks h checked.entry → JudgesClaim h kind start end result }
 {
-    if claim_fault(t.slots, kind, start, end) {
-        return JudgedClaim::NoInterval;
-    }
-    let sums = weigh(t, harvest, kind_of(kind), start as u16, end as u16);
+    let day = checked?;
+    let claim = claimed(day.table.slots, kind, start, end)?;
+    let sums = weigh(day, claim);
     if sums.supply < sums.demand {
-        JudgedClaim::Accepted(sums)
+        Ok(sums)
     } else {
-        JudgedClaim::NotOverloaded(sums)
+        Err(ClaimRefusal::NotOverloaded(sums))
     }
 }
 
@@ -212,26 +234,22 @@ fn judge_claim(t: Table, harvest: &[u8], kind: u64, start: u64, end: u64) -> Jud
 // for time and 1 for energy, against a table and its harvest. Any three numbers are taken; it refuses
 // 3, 4, 5 and 6 as every call does, then 17 and 18, and otherwise accepts the claim. With 18 and with
 // an accepted claim it tells the interval's demand and supply. It writes nothing.
-pub fn claim_on_table(t: Table, harvest: &[u8], kind: u64, start: u64, end: u64) -> JudgedClaim
+pub fn claim_on_table(
+    t: Table,
+    harvest: &[u8],
+    kind: u64,
+    start: u64,
+    end: u64,
+) -> Result<Sums, ClaimRefusal>
     ensures { JudgesClaim (on_table t harvest.now) kind start end result }
 {
-    let outcome = sheet::check(t, harvest);
-    if let Outcome::Refused(why) = outcome {
-        return JudgedClaim::Refused(why);
-    }
-    judge_claim(t, harvest, kind, start, end)
+    judge_claim(CheckedDay::new(&t, harvest), kind, start, end)
 }
 
 // Judges a claim against a sheet, from any bytes: the same, with the sheet's own refusals 1 to 6 first.
-pub fn claim_on_sheet(bytes: &[u8], kind: u64, start: u64, end: u64) -> JudgedClaim
+pub fn claim_on_sheet(bytes: &[u8], kind: u64, start: u64, end: u64) -> Result<Sums, ClaimRefusal>
     ensures { JudgesClaim (on_sheet bytes.now) kind start end result }
 {
     let reading = reader::read(bytes);
-    let outcome = reading.outcome;
-    if let Outcome::Refused(why) = outcome {
-        return JudgedClaim::Refused(why);
-    }
-    let t = reading.table;
-    let harvest = reader::stretch(bytes, t.count, t.slots);
-    judge_claim(t, harvest, kind, start, end)
+    judge_claim(reading.day(), kind, start, end)
 }
