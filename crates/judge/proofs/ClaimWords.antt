@@ -56,6 +56,29 @@ kind_of_number number h =
           ap kind_number (ap (λ (b : Bool). cond b Time Energy) (ne_eqb number 0 e)) ∙ one
     ]
 
+-- ---- 17 as the tests of a claim's numbers tell it
+
+module _ (slots number from to : ℕ) where
+  pub fault_by_kind : 1 < number → claim_fault slots number from to ≡ true
+  unfolding claim_fault
+  fault_by_kind none = rw (no_kind number none)
+
+  module _ (kind : Kind) (has : kind_number kind ≡ number) where
+    one_of_two : number ≤ 1
+    one_of_two = subst (λ (n : ℕ). n ≤ 1) has (kind_number_lem kind)
+
+    pub fault_by_order : to ≤ from → claim_fault slots number from to ≡ true
+    unfolding claim_fault
+    fault_by_order turned = rw (is_kind number one_of_two, le-ltb _ _ turned)
+
+    pub fault_by_end : from < to → slots < to → claim_fault slots number from to ≡ true
+    unfolding claim_fault
+    fault_by_end in_order past = rw (is_kind number one_of_two, lt-ltb _ _ in_order, lt-ltb _ _ past)
+
+    pub no_fault : from < to → to ≤ slots → claim_fault slots number from to ≡ false
+    unfolding claim_fault
+    no_fault in_order in_day = rw (is_kind number one_of_two, lt-ltb _ _ in_order, le-ltb _ _ in_day)
+
 -- 17 does not apply exactly to an interval of the day, claimed in one of the two kinds
 pub record IsInterval (slots number from to : ℕ) : Type 0 where
   pub a_kind : number ≤ 1

@@ -27,14 +27,15 @@ use Rattle.judge.specs.Judge.{plan_says, judged_plan, kind_of, claim_fault, clai
 use Rattle.judge.specs.Promise.{plan_answered, JudgesPlan, claim_answered, sums_told, JudgesClaim}
 use Rattle.judge.specs.Numbers.{no_interval, not_overloaded}
 use Rattle.judge.specs.Stated.{PlanGivenFirst, ClaimStated, NotOverloadedStated, SumsAre}
-use Rattle.judge.specs.declared.JudgedPlan.{JudgedPlan}
-use Rattle.judge.specs.declared.JudgedPlan.TheVariants as Plan
+use Rattle.judge.specs.declared.PlanRefusal.{PlanRefusal}
+use Rattle.judge.specs.declared.PlanRefusal.TheVariants as Plan
 use Rattle.judge.specs.declared.Sums.{Sums}
-use Rattle.judge.specs.declared.JudgedClaim.{JudgedClaim}
-use Rattle.judge.specs.declared.JudgedClaim.TheVariants as Claim
+use Rattle.judge.specs.declared.ClaimRefusal.{ClaimRefusal}
+use Rattle.judge.specs.declared.ClaimRefusal.TheVariants as Claim
 use Rattle.judge.proofs.Acceptable.{given_exactly, acceptable_exactly}
 use Rattle.judge.proofs.ClaimWords.{kind_meant_lem, kind_number_lem, kind_of_number, IsInterval, is_interval, interval_words, claim_accepted, claim_seventeen, claim_eighteen}
 use Rattle.judge.proofs.PlanOrder.{decided}
+use Rattle.std.specs.Prelude.{Result, Ok, Err}
 
 -- ---- a plan
 
@@ -48,81 +49,87 @@ own_fault (HasAllSlots i) = own_number _ refl
 own_fault (LacksCharge i) = own_number _ refl
 own_fault (LacksSlots k) = own_number _ refl
 
-own_plan : Check → JudgedPlan
-own_plan (gives x) = Plan.Accepted
-own_plan (refuses n) = Plan.Faulty (fault_meant (refuses n))
-own_plan (refuses_at n k) = Plan.Faulty (fault_meant (refuses_at n k))
+abbrev handed_plan : Refusal → Result (Unit {0}) PlanRefusal
+handed_plan why = Err (Plan.HandedIn why)
 
-plan_meant : Check → JudgedPlan
-plan_meant a = by_refusal Plan.Refused (own_plan a) a
+own_plan : Check → Result (Unit {0}) PlanRefusal
+own_plan (gives x) = Ok tt
+own_plan (refuses n) = Err (Plan.Plan (fault_meant (refuses n)))
+own_plan (refuses_at n k) = Err (Plan.Plan (fault_meant (refuses_at n k)))
 
-plan_back : (p : JudgedPlan) → plan_meant (plan_answered p) ≡ p
+plan_meant : Check → Result (Unit {0}) PlanRefusal
+plan_meant a = by_refusal handed_plan (own_plan a) a
+
+plan_back : (p : Result (Unit {0}) PlanRefusal) → plan_meant (plan_answered p) ≡ p
 unfolding plan_meant by_refusal own_plan fault_meant
-plan_back (Plan.Refused why) = by_refusal_lem _ Plan.Refused _ why
-plan_back (Plan.Faulty WrongLength) = refl
-plan_back (Plan.Faulty (NoJob i)) = refl
-plan_back (Plan.Faulty (OutsideWindow i)) = refl
-plan_back (Plan.Faulty (HasAllSlots i)) = refl
-plan_back (Plan.Faulty (LacksCharge i)) = refl
-plan_back (Plan.Faulty (LacksSlots k)) = refl
-plan_back Plan.Accepted = refl
+plan_back (Err (Plan.HandedIn why)) = by_refusal_lem _ handed_plan _ why
+plan_back (Err (Plan.Plan WrongLength)) = refl
+plan_back (Err (Plan.Plan (NoJob i))) = refl
+plan_back (Err (Plan.Plan (OutsideWindow i))) = refl
+plan_back (Err (Plan.Plan (HasAllSlots i))) = refl
+plan_back (Err (Plan.Plan (LacksCharge i))) = refl
+plan_back (Err (Plan.Plan (LacksSlots k))) = refl
+plan_back (Ok leave) = refl
 
 -- any two results that the promise allows are equal
-pub one_judgement : {h : HandedIn} {plan : List ℕ} {r q : JudgedPlan} → JudgesPlan h plan r → JudgesPlan h plan q → r ≡ q
+pub one_judgement : {h : HandedIn} {plan : List ℕ} {r q : Result (Unit {0}) PlanRefusal} → JudgesPlan h plan r → JudgesPlan h plan q → r ≡ q
 one_judgement {r = r} {q = q} a b = said_one plan_answered plan_meant plan_back r q (a.answer ∙ sym b.answer)
 
-module _ (h : HandedIn) (plan : List ℕ) (r : JudgedPlan) (judged : JudgesPlan h plan r) where
-  plan_is : (q : JudgedPlan) → (r ≡ q) ↔ (judged_plan h plan ≡ plan_answered q)
+module _ (h : HandedIn) (plan : List ℕ) (r : Result (Unit {0}) PlanRefusal) (judged : JudgesPlan h plan r) where
+  plan_is : (q : Result (Unit {0}) PlanRefusal) → (r ≡ q) ↔ (judged_plan h plan ≡ plan_answered q)
   plan_is q = said_exactly plan_answered plan_meant plan_back r q _ judged.answer
 
   plan_own : Own (plan_says (day_in h) plan)
   plan_own q e = ⊎_elim (λ c. own_given tt q (sym c.0 ∙ e)) (λ w. own_fault w.0 q (sym w.1 ∙ e)) (decided (day_in h) plan)
 
   -- a plan is accepted exactly when what was handed in is well formed and the plan is acceptable
-  pub plan_accepted_exactly : (r ≡ Plan.Accepted) ↔ (Sound h × AcceptablePlan (day_in h) plan)
+  pub plan_accepted_exactly : (r ≡ Ok tt) ↔ (Sound h × AcceptablePlan (day_in h) plan)
   unfolding judged_plan
-  plan_accepted_exactly = Iff.trans (plan_is Plan.Accepted) (own_exactly h _ (gives tt) (own_given tt) (acceptable_exactly (day_in h) plan))
+  plan_accepted_exactly = Iff.trans (plan_is (Ok tt)) (own_exactly h _ (gives tt) (own_given tt) (acceptable_exactly (day_in h) plan))
 
   -- 11 to 16 are given exactly when each is stated and nothing earlier applies
-  pub plan_faulty_exactly : (f : PlanFault) → (r ≡ Plan.Faulty f) ↔ (Sound h × PlanGivenFirst (day_in h) plan f)
+  pub plan_faulty_exactly : (f : PlanFault) → (r ≡ Err (Plan.Plan f)) ↔ (Sound h × PlanGivenFirst (day_in h) plan f)
   unfolding judged_plan
-  plan_faulty_exactly f = Iff.trans (plan_is (Plan.Faulty f)) (own_exactly h _ (fault_says f) (own_fault f) (given_exactly (day_in h) plan f))
+  plan_faulty_exactly f = Iff.trans (plan_is (Err (Plan.Plan f))) (own_exactly h _ (fault_says f) (own_fault f) (given_exactly (day_in h) plan f))
 
   -- 1 to 6 are given exactly as every call gives them
-  pub judged_refused_exactly : (why : Refusal) → (r ≡ Plan.Refused why) ↔ GivenFirst (States h) why
+  pub judged_refused_exactly : (why : Refusal) → (r ≡ Err (Plan.HandedIn why)) ↔ GivenFirst (States h) why
   unfolding judged_plan
-  judged_refused_exactly why = Iff.trans (plan_is (Plan.Refused why)) (handed_on_exactly h _ plan_own why)
+  judged_refused_exactly why = Iff.trans (plan_is (Err (Plan.HandedIn why))) (handed_on_exactly h _ plan_own why)
 
 -- ---- a claim
 
-own_claim : Check → Sums → JudgedClaim
-own_claim (gives x) sums = Claim.Accepted sums
-own_claim (refuses n) sums = cond (eqb n (number_of no_interval)) Claim.NoInterval (Claim.NotOverloaded sums)
-own_claim (refuses_at n k) sums = Claim.NoInterval
+abbrev handed_claim : Refusal → Result Sums ClaimRefusal
+handed_claim why = Err (Claim.HandedIn why)
 
-claim_meant : Check → Sums → JudgedClaim
-claim_meant a sums = by_refusal Claim.Refused (own_claim a sums) a
+own_claim : Check → Sums → Result Sums ClaimRefusal
+own_claim (gives x) sums = Ok sums
+own_claim (refuses n) sums = cond (eqb n (number_of no_interval)) (Err Claim.NoInterval) (Err (Claim.NotOverloaded sums))
+own_claim (refuses_at n k) sums = Err Claim.NoInterval
 
-claim_meant_lem : (r : JudgedClaim) → claim_meant (claim_answered r) (sums_told r) ≡ r
+claim_meant : Check → Sums → Result Sums ClaimRefusal
+claim_meant a sums = by_refusal handed_claim (own_claim a sums) a
+
+claim_meant_lem : (r : Result Sums ClaimRefusal) → claim_meant (claim_answered r) (sums_told r) ≡ r
 unfolding claim_meant by_refusal own_claim
-claim_meant_lem (Claim.Refused why) = by_refusal_lem _ Claim.Refused _ why
-claim_meant_lem Claim.NoInterval = refl
-claim_meant_lem (Claim.NotOverloaded sums) = refl
-claim_meant_lem (Claim.Accepted sums) = refl
+claim_meant_lem (Err (Claim.HandedIn why)) = by_refusal_lem _ handed_claim _ why
+claim_meant_lem (Err Claim.NoInterval) = refl
+claim_meant_lem (Err (Claim.NotOverloaded sums)) = refl
+claim_meant_lem (Ok sums) = refl
 
-claim_one : (r q : JudgedClaim) → claim_answered r ≡ claim_answered q → sums_told r ≡ sums_told q → r ≡ q
+claim_one : (r q : Result Sums ClaimRefusal) → claim_answered r ≡ claim_answered q → sums_told r ≡ sums_told q → r ≡ q
 claim_one r q e w = sym (claim_meant_lem r) ∙ ap₂ claim_meant e w ∙ claim_meant_lem q
 
 -- any two results that the promise allows are equal
-pub one_claim : {h : HandedIn} {number from to : ℕ} {r q : JudgedClaim} → JudgesClaim h number from to r → JudgesClaim h number from to q → r ≡ q
+pub one_claim : {h : HandedIn} {number from to : ℕ} {r q : Result Sums ClaimRefusal} → JudgesClaim h number from to r → JudgesClaim h number from to q → r ≡ q
 one_claim {r = r} {q = q} a b = claim_one r q (a.answer ∙ sym b.answer) (a.sums ∙ sym b.sums)
 
-module _ (h : HandedIn) (number from to : ℕ) (r : JudgedClaim) (judged : JudgesClaim h number from to r) where
+module _ (h : HandedIn) (number from to : ℕ) (r : Result Sums ClaimRefusal) (judged : JudgesClaim h number from to r) where
   claim_is : (a : Check) → (claim_answered r ≡ a) ↔ (judged_claim h number from to ≡ a)
   claim_is a = ((λ e. sym judged.answer ∙ e), (λ e. judged.answer ∙ e))
 
   -- where nothing is weighed, the result is told by its number alone
-  told_alone : (q : JudgedClaim) → ((sums : Sums) → claim_meant (claim_answered q) sums ≡ q) → (r ≡ q) ↔ (claim_answered r ≡ claim_answered q)
+  told_alone : (q : Result Sums ClaimRefusal) → ((sums : Sums) → claim_meant (claim_answered q) sums ≡ q) → (r ≡ q) ↔ (claim_answered r ≡ claim_answered q)
   told_alone q alone = (ap claim_answered, (λ e. sym (claim_meant_lem r) ∙ ap (λ (a : Check). claim_meant a (sums_told r)) e ∙ alone (sums_told r)))
 
   claim_own : Own (claim_says (day_in h) number from to)
@@ -134,17 +141,17 @@ module _ (h : HandedIn) (number from to : ℕ) (r : JudgedClaim) (judged : Judge
       own_last false = own_given tt
 
   -- 17 is given exactly when it is stated and nothing earlier applies
-  pub claim_seventeen_exactly : (r ≡ Claim.NoInterval) ↔ (Sound h × ClaimStated (day_in h).table.slots number from to)
+  pub claim_seventeen_exactly : (r ≡ Err Claim.NoInterval) ↔ (Sound h × ClaimStated (day_in h).table.slots number from to)
   unfolding judged_claim claim_meant by_refusal own_claim sheet_has
   claim_seventeen_exactly =
-      Iff.trans (told_alone Claim.NoInterval (λ sums. refl))
+      Iff.trans (told_alone (Err Claim.NoInterval) (λ sums. refl))
       (Iff.trans (claim_is no_interval) (own_exactly h _ no_interval (own_number no_interval refl) (claim_seventeen (day_in h) number from to)))
 
   -- 1 to 6 are given exactly as every call gives them
-  pub claimed_refused_exactly : (why : Refusal) → (r ≡ Claim.Refused why) ↔ GivenFirst (States h) why
+  pub claimed_refused_exactly : (why : Refusal) → (r ≡ Err (Claim.HandedIn why)) ↔ GivenFirst (States h) why
   unfolding judged_claim claim_meant
   claimed_refused_exactly why =
-      Iff.trans (told_alone (Claim.Refused why) (λ sums. by_refusal_lem _ Claim.Refused _ why))
+      Iff.trans (told_alone (Err (Claim.HandedIn why)) (λ sums. by_refusal_lem _ handed_claim _ why))
       (Iff.trans (claim_is (refusal_says why)) (handed_on_exactly h _ claim_own why))
 
   says_accepted : (claim_answered r ≡ gives tt) ↔ (Sound h × AcceptableClaim (day_in h) number from to)
@@ -183,114 +190,114 @@ module _ (h : HandedIn) (number from to : ℕ) (r : JudgedClaim) (judged : Judge
       record { a_kind = omega arith; in_order = a.in_order; in_day = a.in_day }
 
   -- a claim is accepted exactly when what was handed in is well formed and its interval's demand exceeds its supply, and these are the sums that are told
-  pub claim_accepted_exactly : (sums : Sums) → (r ≡ Claim.Accepted sums) ↔ (Sound h × AcceptableClaim (day_in h) number from to × SumsAre (day_in h) number from to sums)
+  pub claim_accepted_exactly : (sums : Sums) → (r ≡ Ok sums) ↔ (Sound h × AcceptableClaim (day_in h) number from to × SumsAre (day_in h) number from to sums)
   claim_accepted_exactly sums = (
     (λ e.
         let w = says_accepted.0 (ap claim_answered e) in
         (w.0, w.1, told_are w.0 (accepted_interval w.1) sums (ap sums_told e))),
-    (λ w. claim_one r (Claim.Accepted sums) (says_accepted.1 (w.0, w.1)) (are_told w.0 (accepted_interval w.1) sums w.2)),
+    (λ w. claim_one r (Ok sums) (says_accepted.1 (w.0, w.1)) (are_told w.0 (accepted_interval w.1) sums w.2)),
   )
 
   -- 18 is given exactly when it is stated and nothing earlier applies
-  pub claim_eighteen_exactly : (sums : Sums) → (r ≡ Claim.NotOverloaded sums)
+  pub claim_eighteen_exactly : (sums : Sums) → (r ≡ Err (Claim.NotOverloaded sums))
       ↔ (Sound h × (ClaimStated (day_in h).table.slots number from to → ⊥) × NotOverloadedStated (day_in h) number from to × SumsAre (day_in h) number from to sums)
   claim_eighteen_exactly sums = (
     (λ e.
         let w = says_eighteen.0 (ap claim_answered e) in
         (w.0, w.1.0, w.1.1, told_are w.0 ((is_interval (day_in h).table.slots number from to).0 w.1.0) sums (ap sums_told e))),
     (λ w.
-        claim_one r (Claim.NotOverloaded sums) (says_eighteen.1 (w.0, (w.1, w.2)))
+        claim_one r (Err (Claim.NotOverloaded sums)) (says_eighteen.1 (w.0, (w.1, w.2)))
         (are_told w.0 ((is_interval (day_in h).table.slots number from to).0 w.1) sums w.3)),
   )
 
 -- ---- what is acceptable, the judge accepts, and gives no other answer
 
 pub acceptable_is_accepted : (h : HandedIn) (plan : List ℕ) → Sound h → AcceptablePlan (day_in h) plan
-    → JudgesPlan h plan Plan.Accepted × ((r : JudgedPlan) → JudgesPlan h plan r → r ≡ Plan.Accepted)
+    → JudgesPlan h plan (Ok tt) × ((r : Result (Unit {0}) PlanRefusal) → JudgesPlan h plan r → r ≡ Ok tt)
 unfolding judged_plan
 acceptable_is_accepted h plan good ok =
     let says : judged_plan h plan ≡ gives tt =
     (own_exactly h (plan_says (day_in h) plan) (gives tt) (own_given tt) (acceptable_exactly (day_in h) plan)).1 (good, ok) in
-    let is : JudgesPlan h plan Plan.Accepted = record { answer = sym says } in
+    let is : JudgesPlan h plan (Ok tt) = record { answer = sym says } in
     (is, (λ r judged. one_judgement judged is))
 
 pub overloaded_is_accepted : (h : HandedIn) (number from to : ℕ) → Sound h → AcceptableClaim (day_in h) number from to
-    → (sums : Sums) × JudgesClaim h number from to (Claim.Accepted sums) × ((r : JudgedClaim) → JudgesClaim h number from to r → r ≡ Claim.Accepted sums)
+    → (sums : Sums) × JudgesClaim h number from to (Ok sums) × ((r : Result Sums ClaimRefusal) → JudgesClaim h number from to r → r ≡ Ok sums)
 unfolding judged_claim
 overloaded_is_accepted h number from to good ok =
     let says : judged_claim h number from to ≡ gives tt =
     (own_exactly h (claim_says (day_in h) number from to) (gives tt) (own_given tt) (claim_accepted (day_in h) number from to)).1 (good, ok) in
-    let is : JudgesClaim h number from to (Claim.Accepted (judged_sums h number from to)) = record { answer = sym says; sums = refl } in
+    let is : JudgesClaim h number from to (Ok (judged_sums h number from to)) = record { answer = sym says; sums = refl } in
     (judged_sums h number from to, is, (λ r judged. one_claim judged is))
 
 -- ---- the two ways in, each under its own name
 
 module _ (s : List ℕ) where
-  pub sheet_plan_accepted_exactly : (plan : List ℕ) (r : JudgedPlan) → JudgesPlan (on_sheet s) plan r → (r ≡ Plan.Accepted) ↔ (WellFormed s × AcceptablePlan (day_in (on_sheet s)) plan)
+  pub sheet_plan_accepted_exactly : (plan : List ℕ) (r : Result (Unit {0}) PlanRefusal) → JudgesPlan (on_sheet s) plan r → (r ≡ Ok tt) ↔ (WellFormed s × AcceptablePlan (day_in (on_sheet s)) plan)
   sheet_plan_accepted_exactly = plan_accepted_exactly (on_sheet s)
 
-  pub sheet_plan_faulty_exactly : (plan : List ℕ) (r : JudgedPlan) → JudgesPlan (on_sheet s) plan r → (f : PlanFault)
-      → (r ≡ Plan.Faulty f) ↔ (WellFormed s × PlanGivenFirst (day_in (on_sheet s)) plan f)
+  pub sheet_plan_faulty_exactly : (plan : List ℕ) (r : Result (Unit {0}) PlanRefusal) → JudgesPlan (on_sheet s) plan r → (f : PlanFault)
+      → (r ≡ Err (Plan.Plan f)) ↔ (WellFormed s × PlanGivenFirst (day_in (on_sheet s)) plan f)
   sheet_plan_faulty_exactly = plan_faulty_exactly (on_sheet s)
 
-  pub judged_sheet_refused_exactly : (plan : List ℕ) (r : JudgedPlan) → JudgesPlan (on_sheet s) plan r → (why : Refusal) → (r ≡ Plan.Refused why) ↔ GivenFirst (SheetStates s) why
+  pub judged_sheet_refused_exactly : (plan : List ℕ) (r : Result (Unit {0}) PlanRefusal) → JudgesPlan (on_sheet s) plan r → (why : Refusal) → (r ≡ Err (Plan.HandedIn why)) ↔ GivenFirst (SheetStates s) why
   judged_sheet_refused_exactly = judged_refused_exactly (on_sheet s)
 
-  pub one_sheet_judgement : {plan : List ℕ} {r q : JudgedPlan} → JudgesPlan (on_sheet s) plan r → JudgesPlan (on_sheet s) plan q → r ≡ q
+  pub one_sheet_judgement : {plan : List ℕ} {r q : Result (Unit {0}) PlanRefusal} → JudgesPlan (on_sheet s) plan r → JudgesPlan (on_sheet s) plan q → r ≡ q
   one_sheet_judgement = one_judgement
 
-  module _ (number from to : ℕ) (r : JudgedClaim) (judged : JudgesClaim (on_sheet s) number from to r) where
-    pub sheet_claim_accepted_exactly : (sums : Sums) → (r ≡ Claim.Accepted sums)
+  module _ (number from to : ℕ) (r : Result Sums ClaimRefusal) (judged : JudgesClaim (on_sheet s) number from to r) where
+    pub sheet_claim_accepted_exactly : (sums : Sums) → (r ≡ Ok sums)
         ↔ (WellFormed s × AcceptableClaim (day_in (on_sheet s)) number from to × SumsAre (day_in (on_sheet s)) number from to sums)
     sheet_claim_accepted_exactly = claim_accepted_exactly (on_sheet s) number from to r judged
 
-    pub sheet_claim_seventeen_exactly : (r ≡ Claim.NoInterval) ↔ (WellFormed s × ClaimStated (day_in (on_sheet s)).table.slots number from to)
+    pub sheet_claim_seventeen_exactly : (r ≡ Err Claim.NoInterval) ↔ (WellFormed s × ClaimStated (day_in (on_sheet s)).table.slots number from to)
     sheet_claim_seventeen_exactly = claim_seventeen_exactly (on_sheet s) number from to r judged
 
-    pub sheet_claim_eighteen_exactly : (sums : Sums) → (r ≡ Claim.NotOverloaded sums)
+    pub sheet_claim_eighteen_exactly : (sums : Sums) → (r ≡ Err (Claim.NotOverloaded sums))
         ↔ (WellFormed s
         × (ClaimStated (day_in (on_sheet s)).table.slots number from to → ⊥)
         × NotOverloadedStated (day_in (on_sheet s)) number from to
         × SumsAre (day_in (on_sheet s)) number from to sums)
     sheet_claim_eighteen_exactly = claim_eighteen_exactly (on_sheet s) number from to r judged
 
-    pub claimed_sheet_refused_exactly : (why : Refusal) → (r ≡ Claim.Refused why) ↔ GivenFirst (SheetStates s) why
+    pub claimed_sheet_refused_exactly : (why : Refusal) → (r ≡ Err (Claim.HandedIn why)) ↔ GivenFirst (SheetStates s) why
     claimed_sheet_refused_exactly = claimed_refused_exactly (on_sheet s) number from to r judged
 
-  pub one_sheet_claim : {number from to : ℕ} {r q : JudgedClaim} → JudgesClaim (on_sheet s) number from to r → JudgesClaim (on_sheet s) number from to q → r ≡ q
+  pub one_sheet_claim : {number from to : ℕ} {r q : Result Sums ClaimRefusal} → JudgesClaim (on_sheet s) number from to r → JudgesClaim (on_sheet s) number from to q → r ≡ q
   one_sheet_claim = one_claim
 
 module _ (t : Table) (harvest : List ℕ) where
-  pub table_plan_accepted_exactly : (plan : List ℕ) (r : JudgedPlan) → JudgesPlan (on_table t harvest) plan r → (r ≡ Plan.Accepted) ↔ (GoodDay (day_of t harvest) × AcceptablePlan (day_of t harvest) plan)
+  pub table_plan_accepted_exactly : (plan : List ℕ) (r : Result (Unit {0}) PlanRefusal) → JudgesPlan (on_table t harvest) plan r → (r ≡ Ok tt) ↔ (GoodDay (day_of t harvest) × AcceptablePlan (day_of t harvest) plan)
   table_plan_accepted_exactly = plan_accepted_exactly (on_table t harvest)
 
-  pub table_plan_faulty_exactly : (plan : List ℕ) (r : JudgedPlan) → JudgesPlan (on_table t harvest) plan r → (f : PlanFault)
-      → (r ≡ Plan.Faulty f) ↔ (GoodDay (day_of t harvest) × PlanGivenFirst (day_of t harvest) plan f)
+  pub table_plan_faulty_exactly : (plan : List ℕ) (r : Result (Unit {0}) PlanRefusal) → JudgesPlan (on_table t harvest) plan r → (f : PlanFault)
+      → (r ≡ Err (Plan.Plan f)) ↔ (GoodDay (day_of t harvest) × PlanGivenFirst (day_of t harvest) plan f)
   table_plan_faulty_exactly = plan_faulty_exactly (on_table t harvest)
 
-  pub judged_table_refused_exactly : (plan : List ℕ) (r : JudgedPlan) → JudgesPlan (on_table t harvest) plan r → (why : Refusal) → (r ≡ Plan.Refused why) ↔ GivenFirst (TableStates (day_of t harvest)) why
+  pub judged_table_refused_exactly : (plan : List ℕ) (r : Result (Unit {0}) PlanRefusal) → JudgesPlan (on_table t harvest) plan r → (why : Refusal) → (r ≡ Err (Plan.HandedIn why)) ↔ GivenFirst (TableStates (day_of t harvest)) why
   judged_table_refused_exactly = judged_refused_exactly (on_table t harvest)
 
-  pub one_table_judgement : {plan : List ℕ} {r q : JudgedPlan} → JudgesPlan (on_table t harvest) plan r → JudgesPlan (on_table t harvest) plan q → r ≡ q
+  pub one_table_judgement : {plan : List ℕ} {r q : Result (Unit {0}) PlanRefusal} → JudgesPlan (on_table t harvest) plan r → JudgesPlan (on_table t harvest) plan q → r ≡ q
   one_table_judgement = one_judgement
 
-  module _ (number from to : ℕ) (r : JudgedClaim) (judged : JudgesClaim (on_table t harvest) number from to r) where
-    pub table_claim_accepted_exactly : (sums : Sums) → (r ≡ Claim.Accepted sums)
+  module _ (number from to : ℕ) (r : Result Sums ClaimRefusal) (judged : JudgesClaim (on_table t harvest) number from to r) where
+    pub table_claim_accepted_exactly : (sums : Sums) → (r ≡ Ok sums)
         ↔ (GoodDay (day_of t harvest) × AcceptableClaim (day_of t harvest) number from to × SumsAre (day_of t harvest) number from to sums)
     table_claim_accepted_exactly = claim_accepted_exactly (on_table t harvest) number from to r judged
 
-    pub table_claim_seventeen_exactly : (r ≡ Claim.NoInterval) ↔ (GoodDay (day_of t harvest) × ClaimStated t.slots number from to)
+    pub table_claim_seventeen_exactly : (r ≡ Err Claim.NoInterval) ↔ (GoodDay (day_of t harvest) × ClaimStated t.slots number from to)
     table_claim_seventeen_exactly = claim_seventeen_exactly (on_table t harvest) number from to r judged
 
-    pub table_claim_eighteen_exactly : (sums : Sums) → (r ≡ Claim.NotOverloaded sums)
+    pub table_claim_eighteen_exactly : (sums : Sums) → (r ≡ Err (Claim.NotOverloaded sums))
         ↔ (GoodDay (day_of t harvest)
         × (ClaimStated t.slots number from to → ⊥)
         × NotOverloadedStated (day_of t harvest) number from to
         × SumsAre (day_of t harvest) number from to sums)
     table_claim_eighteen_exactly = claim_eighteen_exactly (on_table t harvest) number from to r judged
 
-    pub claimed_table_refused_exactly : (why : Refusal) → (r ≡ Claim.Refused why) ↔ GivenFirst (TableStates (day_of t harvest)) why
+    pub claimed_table_refused_exactly : (why : Refusal) → (r ≡ Err (Claim.HandedIn why)) ↔ GivenFirst (TableStates (day_of t harvest)) why
     claimed_table_refused_exactly = claimed_refused_exactly (on_table t harvest) number from to r judged
 
-  pub one_table_claim : {number from to : ℕ} {r q : JudgedClaim} → JudgesClaim (on_table t harvest) number from to r → JudgesClaim (on_table t harvest) number from to q → r ≡ q
+  pub one_table_claim : {number from to : ℕ} {r q : Result Sums ClaimRefusal} → JudgesClaim (on_table t harvest) number from to r → JudgesClaim (on_table t harvest) number from to q → r ≡ q
   one_table_claim = one_claim

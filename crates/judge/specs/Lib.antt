@@ -3,3 +3,4 @@ pub mod Judge
 pub mod Numbers
 pub mod Promise
 pub mod Stated
+pub mod Steps

@@ -143,7 +143,7 @@ struct Claimed {
 
 // The interval that a claim's numbers name on a day of so many slots; 17 where the kind is neither 0 nor 1,
 // the start is not below the end, or the end is above slots.
-fn claimed(slots: u16, kind: u64, start: u64, end: u64) -> Result<Claimed, ClaimRefusal>
+fn interval_of(slots: u16, kind: u64, start: u64, end: u64) -> Result<Claimed, ClaimRefusal>
     ensures { Names slots kind start end result }
 {
     let kind = Kind::try_from(kind)?;
@@ -204,8 +204,8 @@ fn weigh(day: CheckedDay, claim: Claimed) -> Sums
     let supply = match claim.kind {
         Kind::Time => u32::from(claim.to - claim.from),
         Kind::Energy => {
-            u32::from(day.table.capacity)
-                + harvest_of(day.harvest, usize::from(claim.from), usize::from(claim.to))
+            sheet::wide(day.table.capacity)
+                + harvest_of(day.harvest, claim.from as usize, claim.to as usize)
         }
     };
     Sums { demand, supply }
@@ -221,7 +221,7 @@ fn judge_claim(
     ensures { (h : HandedIn) → Checks h checked.entry → JudgesClaim h kind start end result }
 {
     let day = checked?;
-    let claim = claimed(day.table.slots, kind, start, end)?;
+    let claim = interval_of(day.table.slots, kind, start, end)?;
     let sums = weigh(day, claim);
     if sums.supply < sums.demand {
         Ok(sums)

@@ -1,13 +1,6 @@
--- The sheet's own refusal, or what is said of the claim on the table and harvest that stand in it.
-use Rattle.reader.proofs.Harvesting.{read_good}
-use Rattle.judge.proofs.Promised.{claim_refused_there, claim_there}
+-- The day of the reading is that of the sheet.
+use Rattle.reader.proofs.Harvesting.{hands_on_sheet}
 use Rattle.judge.proofs.claim_on_sheet.Goals as goal
 
-pub returns-in-Refused : goal.returns-in-Refused
-returns-in-Refused c = search claim_refused_there
-
-pub judge_claim-requires : goal.judge_claim-requires
-judge_claim-requires c = search read_good
-
 pub returns : goal.returns
-returns c = search claim_there
+returns c = c.judge_claim.ensures _ (hands_on_sheet _ _ c.read-reading.ensures _ c.day.ensures)

@@ -1,10 +1,13 @@
--- The loop keeps: the demand is the sum of what the jobs before k add to it.
-use Prim.Native.Nat.{ℕ, ◌+◌}
-use mathlib.Core.Path.{◌≡◌, refl, sym, ap, ap₂, ◌∙◌}
+-- Each job of the table adds its part to the demand, or none.
+use Rattle.std.proofs.Common.{arith, ℕ, ◌≡◌, ◌+◌, ◌<◌}
+use Rattle.std.proofs.lemmas.List.{get_or-take}
+use mathlib.Core.Path.{refl, sym, ap, ap₂, ◌∙◌}
 use mathlib.Core.Bool.{Bool, true, false, cond}
-use native.Mathlib.Omega.{arith}
 use Rattle.sheet.specs.Sums.{total}
+use Rattle.sheet.specs.Table.{no_job}
+use Rattle.sheet.specs.declared.Job.{Job}
 use Rattle.sheet.proofs.Sums.{total_none, total_more}
+use Rattle.interval.specs.Demand.{within, share_of}
 use Rattle.judge.proofs.Weighing.{part_of, part_read, demand_is}
 use borrow.Author.Rules.{rules}
 use Rattle.judge.proofs.demand_of.Goals as goal
@@ -16,32 +19,37 @@ counted counts share e = rw e
 passed_over : (counts : Bool) (share : ℕ) → counts ≡ false → 0 ≡ cond counts share 0
 passed_over counts share e = rw e
 
-pub loop-k-init : goal.loop-k-init
-loop-k-init c = (refl, search rules, sym (total_none _), search rules)
+pub loop-job-init : goal.loop-job-init
+loop-job-init c = (sym (total_none _), search rules)
 
-pub loop-k-preserved : goal.loop-k-preserved
-loop-k-preserved c =
-    let args = c.args in
-    let k = c.loop-k.k in
-    let asked = c.is_within.ensures in
-    let more = total_more (part_of args.kind args.t args.from args.to) k in
+pub loop-job-preserved : goal.loop-job-preserved
+loop-job-preserved c =
+    let claim = c.args.claim in
+    let table = c.args.day.table.now in
+    let k = c.loop-job.job-index in
+    let in_table : k < table.count = omega arith in
+    let same = get_or-take table.count table.jobs k no_job in_table in
+    let asked = c.is_within.ensures ∙ ap (λ (j : Job). within claim.from claim.to j) same in
+    let more = total_more (part_of claim.kind table claim.from claim.to) k in
     elim c.if-is_within.branch [
       | then-is_within w ↦
-          let part = part_read args.kind args.t args.from args.to k _ _ _ asked w.share-demand.ensures.0 (counted _ _ w.if-is_within.true) in
+          let share = w.share-demand.ensures.0 ∙ ap (λ (j : Job). share_of claim.kind j) same in
+          let part = part_read claim.kind table claim.from claim.to k _ _ _ asked share (counted _ _ w.if-is_within.true) in
           let small = w.share-demand.ensures.1 in
-          let is : c.if-is_within.demand ≡ c.loop-k.demand + w.share-demand.result = w.demand-is in
-          (refl, search rules, is ∙ ap₂ ◌+◌ c.loop-k.invariant.2 part ∙ sym more, omega arith)
+          let is : c.if-is_within.demand ≡ c.loop-job.demand + w.share-demand.result = w.demand-is in
+          (is ∙ ap₂ ◌+◌ c.loop-job.invariant.0 part ∙ sym more, omega arith)
       | else-is_within w ↦
-          let none = part_read args.kind args.t args.from args.to k 0 _ _ asked refl (passed_over _ _ w.if-is_within.false) in
-          let is : c.if-is_within.demand ≡ c.loop-k.demand = w.demand-is in
-          let same : c.loop-k.demand ≡ c.loop-k.demand + 0 = omega arith in
-          (refl, search rules, is ∙ same ∙ ap₂ ◌+◌ c.loop-k.invariant.2 none ∙ sym more, omega arith)
+          let none = part_read claim.kind table claim.from claim.to k 0 _ _ asked refl (passed_over _ _ w.if-is_within.false) in
+          let is : c.if-is_within.demand ≡ c.loop-job.demand = w.demand-is in
+          let same : c.loop-job.demand ≡ c.loop-job.demand + 0 = omega arith in
+          (is ∙ same ∙ ap₂ ◌+◌ c.loop-job.invariant.0 none ∙ sym more, omega arith)
     ]
 
 pub returns : goal.returns
-returns c harvest =
-    let args = c.args in
-    let at_end : c.loop-k.k ≡ args.t.count = omega arith in
-    c.loop-k.invariant.2
-    ∙ ap (total (part_of args.kind args.t args.from args.to)) at_end
-    ∙ demand_is args.kind args.t harvest args.from args.to
+returns c =
+    let claim = c.args.claim in
+    let table = c.args.day.table.now in
+    let at_end : c.loop-job.job-index ≡ table.count = omega arith in
+    c.loop-job.invariant.0
+    ∙ ap (total (part_of claim.kind table claim.from claim.to)) at_end
+    ∙ demand_is claim.kind table c.args.day.harvest.now claim.from claim.to

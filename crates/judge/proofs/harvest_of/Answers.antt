@@ -1,27 +1,37 @@
--- The loop keeps: the sum is the harvest of the slots before i.
-use Prim.Native.Nat.{◌+◌}
-use mathlib.Core.Path.{◌≡◌, sym, ap, ap₂, ◌∙◌}
-use native.Mathlib.Omega.{arith}
+-- The bytes of the stretch are those of its slots, one after the other.
+use Rattle.std.proofs.Common.{arith, ℕ, ◌≡◌, ◌+◌, ◌-◌, ◌<◌}
+use Rattle.std.proofs.lemmas.List.{get_or-take, get_or-drop}
+use mathlib.Core.Path.{sym, ap, ap₂, ◌∙◌}
 use Rattle.sheet.specs.Sums.{harvest_of}
+use Rattle.sheet.specs.Table.{counted_as}
 use Rattle.sheet.proofs.Sums.{harvest_none, harvest_to}
-use borrow.Author.Rules.{rules}
 use Rattle.judge.proofs.harvest_of.Goals as goal
 
-pub loop-i-init : goal.loop-i-init
-loop-i-init c = (search rules, search rules, sym (harvest_none _ _), search rules)
+pub loop-byte-init : goal.loop-byte-init
+loop-byte-init c =
+    let first : c.args.from + 0 ≡ c.args.from = omega arith in
+    (sym (ap (harvest_of c.args.harvest.now c.args.from) first ∙ harvest_none _ _), omega arith)
 
-pub loop-i-preserved : goal.loop-i-preserved
-loop-i-preserved c =
+pub loop-byte-preserved : goal.loop-byte-preserved
+loop-byte-preserved c =
     let args = c.args in
-    let i = c.loop-i.i in
-    let from-it = c.loop-i.invariant.0 in
-    let small = c.counted.ensures.1 in
-    let wide = c.wide-sum.ensures.0 in
-    let byte = wide ∙ c.counted.ensures.0 in
-    (omega arith, search rules, ap₂ ◌+◌ c.loop-i.invariant.2 byte ∙ sym (harvest_to args.harvest.now args.from i from-it), omega arith)
+    let i = c.loop-byte.byte-index in
+    let in_stretch : i < args.to - args.from = omega arith in
+    let byte =
+    c.from-sum.ensures ∙ c.counted.ensures.0
+    ∙ ap (λ (b : ℕ). counted_as b) (get_or-take (args.to - args.from) _ i 0 in_stretch ∙ get_or-drop args.from args.harvest.now i 0)
+    in
+    let most = c.counted.ensures.1 in
+    let wide = c.from-sum.ensures in
+    let next : args.from + i + 1 ≡ args.from + (i + 1) = omega arith in (
+      ap₂ ◌+◌ c.loop-byte.invariant.0 byte ∙ sym (harvest_to args.harvest.now args.from (args.from + i) (omega arith))
+          ∙ ap (harvest_of args.harvest.now args.from) next,
+      omega arith,
+    )
 
 pub returns : goal.returns
 returns c =
     let args = c.args in
-    let at_end : c.loop-i.i ≡ args.to = omega arith in
-    (c.loop-i.invariant.2 ∙ ap (harvest_of args.harvest.now args.from) at_end, omega arith)
+    let bounds = c.requires in
+    let at_end : args.from + c.loop-byte.byte-index ≡ args.to = omega arith in
+    (c.loop-byte.invariant.0 ∙ ap (harvest_of args.harvest.now args.from) at_end, omega arith)

@@ -1,52 +1,48 @@
--- 17 by its own test, and then the two sums are compared.
-use Prim.Native.Nat.{◌≤◌, ◌<◌}
-use mathlib.Core.Path.{◌≡◌, sym, ap, ◌∙◌}
-use mathlib.Core.Bool.{false}
-use native.Mathlib.Omega.{arith}
-use Rattle.sheet.specs.Table.{day_of}
-use Rattle.judge.specs.Judge.{kind_of, claim_fault, sums_of}
-use Rattle.sheet.specs.WellFormed.{GoodDay}
-use Rattle.judge.proofs.Promised.{claim_in_day, judged_seventeen, judged_accepted, judged_eighteen}
-use Rattle.judge.proofs.judge_claim.Goals.{After-kind_of, After-weigh-sums}
+-- The refusal of what was handed in, 17, or the two sums compared.
+use mathlib.Core.Path.{◌≡◌, ap₂, ◌∙◌, subst}
+use Rattle.std.proofs.Common.{ℕ, ◌<◌, ◌≤◌}
+use Rattle.std.proofs.lemmas.Result.{err_from_is_err_and}
+use Rattle.sheet.specs.Checked.{Checks, the_day}
+use Rattle.judge.specs.Judge.{sums_of}
+use Rattle.judge.proofs.Promised.{claim_refused, claim_in_day, judged_seventeen, judged_accepted, judged_eighteen}
+use Rattle.judge.proofs.judge_claim.Goals.{In_ok-claim, After-weigh-sums}
 use Rattle.judge.proofs.judge_claim.Goals as goal
 
 -- an interval of the day
-in_day : (c : After-kind_of)
-    → let args = c.args in
-    (args.start < args.end) × (args.end ≤ args.t.slots)
-in_day c = claim_in_day _ _ _ _ (sym c.claim_fault.ensures ∙ c.if-claim_fault.false)
+in_day : (c : In_ok-claim) → (c.in_ok-claim.claim.from < c.in_ok-claim.claim.to) × (c.in_ok-claim.claim.to ≤ c.in_ok-day.day.table.now.slots)
+in_day c =
+    let named = c.in_ok-claim.ensures in
+    rw (named.2, named.3) (claim_in_day _ _ _ _ named.0)
 
--- the table was checked
-good : (c : After-weigh-sums) → let args = c.args in GoodDay (day_of args.t args.harvest.now)
-good c = c.requires
-
--- what was weighed, past 17
-weighed : (c : After-weigh-sums)
-    → let args = c.args in
-    (c.claim_fault.result ≡ claim_fault args.t.slots args.kind args.start args.end)
-    × (c.claim_fault.result ≡ false)
-    × (c.weigh-sums.result ≡ sums_of (kind_of args.kind) (day_of args.t args.harvest.now) args.start args.end)
+-- what was weighed
+weighed : (c : After-weigh-sums) → c.weigh-sums.result ≡ sums_of c.in_ok-claim.claim.kind (the_day c.in_ok-day.day) c.args.start c.args.end
 weighed c =
-    let args = c.args in (
-      c.claim_fault.ensures,
-      c.if-claim_fault.false,
-      c.weigh-sums.ensures ∙ ap (λ k. sums_of k (day_of args.t args.harvest.now) args.start args.end) c.kind_of.ensures,
-    )
+    let named = c.in_ok-claim.ensures in
+    c.weigh-sums.ensures ∙ ap₂ (λ (from to : ℕ). sums_of c.in_ok-claim.claim.kind (the_day c.in_ok-day.day) from to) named.2 named.3
 
-pub returns-then-claim_fault : goal.returns-then-claim_fault
-returns-then-claim_fault c = search judged_seventeen
+pub returns-in_err-day : goal.returns-in_err-day
+returns-in_err-day c h checks =
+    let p = err_from_is_err_and c.from_residual.result c.from_residual.ensures.1 in
+    rw (p.1, p.2) (claim_refused h _ (subst (Checks h) c.in_err-day.was checks) _ _ _)
 
-pub overflow_cast-start : goal.overflow_cast-start
-overflow_cast-start c = let h = in_day c in let few = c.requires.few_slots in record { fits = omega arith }
-
-pub overflow_cast-end : goal.overflow_cast-end
-overflow_cast-end c = let h = in_day c in let few = c.requires.few_slots in record { fits = omega arith }
+pub returns-in_err-claim : goal.returns-in_err-claim
+returns-in_err-claim c h checks =
+    let day = subst (Checks h) c.in_ok-day.was checks in
+    let p = err_from_is_err_and c.from_residual-in_err-claim.result c.from_residual-in_err-claim.ensures.1 in
+    let seventeen = c.in_err-claim.ensures in
+    rw (p.1, p.2, seventeen.1) (judged_seventeen h (the_day c.in_ok-day.day) day.0 day.1 _ _ _ seventeen.0)
 
 pub weigh-sums-requires : goal.weigh-sums-requires
-weigh-sums-requires c = let h = in_day c in (c.requires, h.0, h.1)
+weigh-sums-requires c = in_day c
 
 pub returns-then-sums : goal.returns-then-sums
-returns-then-sums c = let w = weighed (goal.at.returns-then-sums c).After-weigh-sums in judged_accepted _ _ (good (goal.at.returns-then-sums c).After-weigh-sums) _ _ _ w.0 w.1 _ w.2 c.if-sums.true
+returns-then-sums c h checks =
+    let day = subst (Checks h) c.in_ok-day.was checks in
+    let named = c.in_ok-claim.ensures in
+    judged_accepted h (the_day c.in_ok-day.day) day.0 day.1 _ _ _ named.0 _ named.1 _ (weighed (goal.at.returns-then-sums c).After-weigh-sums) c.if-sums.true
 
 pub returns-else-sums : goal.returns-else-sums
-returns-else-sums c = let w = weighed (goal.at.returns-else-sums c).After-weigh-sums in judged_eighteen _ _ (good (goal.at.returns-else-sums c).After-weigh-sums) _ _ _ w.0 w.1 _ w.2 c.if-sums.false
+returns-else-sums c h checks =
+    let day = subst (Checks h) c.in_ok-day.was checks in
+    let named = c.in_ok-claim.ensures in
+    judged_eighteen h (the_day c.in_ok-day.day) day.0 day.1 _ _ _ named.0 _ named.1 _ (weighed (goal.at.returns-else-sums c).After-weigh-sums) c.if-sums.false

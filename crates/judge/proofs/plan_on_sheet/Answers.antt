@@ -1,13 +1,6 @@
--- The sheet's own refusal, or what is said of the plan on the table and harvest that stand in it.
-use Rattle.reader.proofs.Harvesting.{read_good}
-use Rattle.judge.proofs.Promised.{plan_refused_there, plan_there}
+-- The day of the reading is that of the sheet.
+use Rattle.reader.proofs.Harvesting.{hands_on_sheet}
 use Rattle.judge.proofs.plan_on_sheet.Goals as goal
 
-pub returns-in-Refused : goal.returns-in-Refused
-returns-in-Refused c = search plan_refused_there
-
-pub judge_plan-requires : goal.judge_plan-requires
-judge_plan-requires c = search read_good
-
 pub returns : goal.returns
-returns c = search plan_there
+returns c = c.judge_plan.ensures _ (hands_on_sheet _ _ c.read-reading.ensures _ c.day.ensures)
