@@ -107,7 +107,8 @@ fn judge_plan(checked: Result<CheckedDay, Refusal>, plan: &[u8]) -> Result<(), P
     if plan.len() != day.table.slots as usize {
         return Err(PlanRefusal::Plan(PlanFault::WrongLength));
     }
-    plan_slots::judge_slots(day, plan)?;
+    let found = plan_slots::judge_slots(day, plan);
+    found?;
     Ok(())
 }
 

@@ -1,13 +1,14 @@
 -- Laws of a plan slot by slot: what each job got, the level, and what is said of a slot that is idle, that names no job, and that names one.
 use Prim.Native.Nat.{ℕ, zero, suc, min, ◌+◌, ◌-◌, ◌≤◌, ◌<◌}
 use mathlib.Core.Path.{◌≡◌, refl, sym, ap, ◌∙◌, subst}
-use mathlib.Core.Bool.{Bool, true, false, cond, not, ◌||◌}
+use mathlib.Core.Bool.{Bool, true, false, cond}
 use mathlib.Core.List.{List}
 use native.Mathlib.Numerals.{add-one}
 use native.Mathlib.Omega.{arith}
 use lib.Dec.{ltb, eqb}
 use lib.ListN.{length, get_or}
 use borrow.Author.Tests.{lt-ltb, le-ltb, eq-eqb, ne_eqb}
+use Rattle.std.proofs.lemmas.Bool.Decides.{nat_tests}
 use Rattle.std.proofs.lemmas.List.{get_or_default}
 use Rattle.sheet.specs.Paper.{Check, gives, ◌when◌, ◌else◌, in_order}
 use Rattle.sheet.specs.Sums.{harvest_at}
@@ -87,11 +88,7 @@ module _ (d : Day) (plan : List ℕ) where
 
     is_job : names_nothing d plan i ≡ false
     unfolding names_nothing
-    is_job = let e = names_it in go (eqb (byte_of plan i) idle_byte) e
-      where
-        go : (b : Bool) → names_job d plan i ≡ true → not (b || names_job d plan i) ≡ false
-        go true e = refl
-        go false e = rw e
+    is_job = let e = names_it in grind (arith, nat_tests)
 
     pub busy_says : slot_says d plan i ≡ job_says (job_of d.table k) i (slots_got plan k i) (charge_at i)
     unfolding slot_says

@@ -2,7 +2,6 @@
 use Prim.Native.Nat.{ℕ, min, ◌+◌, ◌-◌, ◌≤◌, ◌<◌}
 use mathlib.Core.Path.{◌≡◌, refl, sym, ap, ap₂, ◌∙◌, subst}
 use mathlib.Core.List.{List}
-use native.Mathlib.Decide.{ℕ_discrete}
 use native.Mathlib.Omega.{arith}
 use lib.ListN.{length, get_or, set, replicate, length-set}
 use lib.Seq.{get_or-set_same, get_or-set_other}
@@ -66,10 +65,8 @@ module _ {d : Day} {plan got : List ℕ} {level i byte charge : ℕ} (read : Slo
 
   pub refused_stranger : (byte ≡ idle_byte → ⊥) → d.table.count ≤ byte → fault_says (NoJob i) ≡ slots_say d plan
   refused_stranger busy h =
-      let e = its_byte in
-      sym
-      (first_refused d plan i (fault_says (NoJob i)) read.in_day read.kept.clear
-      (stranger_says d plan i (λ q. busy (e ∙ q)) (subst (λ (n : ℕ). d.table.count ≤ n) e h)) tt)
+      let named = its_byte in
+      sym (first_refused d plan i (fault_says (NoJob i)) read.in_day read.kept.clear (stranger_says d plan i (λ q. busy (named ∙ q)) (omega arith)) tt)
 
   -- ---- a slot that names a job
 
@@ -83,19 +80,16 @@ module _ {d : Day} {plan got : List ℕ} {level i byte charge : ℕ} (read : Slo
     got_stored : (m : ℕ) → m < d.table.count → get_or (set got byte (get_or got byte 0 + 1)) m 0 ≡ slots_got plan m (i + 1)
     got_stored m l =
         let long = read.kept.got_long in
-        elim (ℕ_discrete m byte) [
-          | yes e ↦
-              subst (λ (n : ℕ). get_or (set got byte (get_or got byte 0 + 1)) n 0 ≡ slots_got plan n (i + 1)) (sym e)
-              (get_or-set_same got byte (get_or got byte 0 + 1) 0 (omega arith)
-              ∙ ap (λ (n : ℕ). n + 1) (read.kept.got_is byte h)
-              ∙ sym (got_here plan byte i (sym its_byte)))
-          | no e ↦ get_or-set_other got byte m (get_or got byte 0 + 1) 0 e ∙ read.kept.got_is m l ∙ sym (got_not_here plan m i (λ q. e (sym (its_byte ∙ q))))
-        ]
+        let before = read.kept.got_is m l in
+        let here = got_here plan m i in
+        let other = got_not_here plan m i in
+        let named = its_byte in
+        grind (arith, get_or-set_same {A = ℕ}, get_or-set_other {A = ℕ})
 
     pub kept_busy : (after level' : ℕ) → JobLeaves (job_of d.table byte) i d.table.capacity charge (get_or got byte 0) after (Ok level')
         → Kept d plan (set got byte after) level' (i + 1)
     kept_busy after level' (nothing, more, e) =
-        subst (λ (n : ℕ). Kept d plan (set got byte n) level' (i + 1)) (sym more)
+        rw more
         (record {
           level_is = e ∙ ap (λ (n : ℕ). min d.table.capacity (n - (job_of d.table byte).energy)) its_charge ∙ sym (busy_level d plan i byte h (sym its_byte));
           got_long = length-set got byte _ ∙ read.kept.got_long;

@@ -4,15 +4,14 @@ use mathlib.Core.Path.{◌≡◌, refl, sym, ap, ◌∙◌, subst}
 use mathlib.Core.Bool.{Bool, true, false, cond, not, ◌&&◌}
 use mathlib.Core.List.{List}
 use mathlib.Core.Logic.{◌↔◌, ◌⊎◌, inl, inr, ⊎_elim}
+use native.Mathlib.Omega.{arith}
 use lib.Dec.{ltb, leb, eqb}
-use borrow.Author.Tests.{le-ltb, lt-leb, ne_eqb, ltb-false, leb-false, eqb-false, not-true}
 use Rattle.std.specs.Prelude.{⊤, Result, Ok, Err}
+use Rattle.std.proofs.lemmas.Bool.Decides.{nat_tests}
 use Rattle.sheet.specs.Paper.{Check, gives, refuses, refuses_at, ◌when◌, ◌else◌, in_order, number_of}
 use Rattle.sheet.specs.Sums.{harvest_at}
 use Rattle.sheet.specs.Table.{idle_byte, job_of, Day}
-use Rattle.sheet.proofs.Exactly.{either, never_both}
 use Rattle.sheet.proofs.Order.{Refuses, in_order_decided}
-use Rattle.sheet.proofs.Words.{or_left, or_right, or_false, and_true}
 use Rattle.plan_slots.specs.Numbers.{fault_says, finding_says}
 use Rattle.plan_slots.specs.Plan.{byte_of, names_job, slots_got, level_at}
 use Rattle.plan_slots.specs.Slots.{names_nothing, outside_window, has_all_slots, lacks_charge, job_says, slot_says}
@@ -128,9 +127,9 @@ fault_one f g e = sym (fault_meant_lem f) ∙ ap fault_meant e ∙ fault_meant_l
 
 -- and any two findings of which the same is said
 pub one_finding : (x y : Result ⊤ PlanFault) → finding_says x ≡ finding_says y → x ≡ y
-one_finding (Ok done) (Ok all) e = refl
-one_finding (Ok done) (Err g) e = absurd (fault_not_given g (sym e))
-one_finding (Err f) (Ok done) e = absurd (fault_not_given f e)
+one_finding (Ok _) (Ok _) e = refl
+one_finding (Ok _) (Err g) e = absurd (fault_not_given g (sym e))
+one_finding (Err f) (Ok _) e = absurd (fault_not_given f e)
 one_finding (Err f) (Err g) e = ap Err (fault_one f g e)
 
 -- ---- the tests in words
@@ -138,26 +137,8 @@ one_finding (Err f) (Err g) e = ap Err (fault_one f g e)
 -- 12
 pub no_job_words : (d : Day) (plan : List ℕ) (i : ℕ) → (names_nothing d plan i ≡ true) ↔ ((byte_of plan i ≡ idle_byte → ⊥) × (d.table.count ≤ byte_of plan i))
 unfolding names_nothing
-no_job_words d plan i = (
-  (λ e.
-      let none = not-true _ e in (
-        eqb-false _ _ (or_left (eqb (byte_of plan i) idle_byte) (names_job d plan i) none),
-        ltb-false _ _ (or_right (eqb (byte_of plan i) idle_byte) (names_job d plan i) none),
-      )),
-  (λ w. ap not (or_false (eqb (byte_of plan i) idle_byte) (names_job d plan i) (ne_eqb _ _ w.0) (le-ltb _ _ w.1))),
-)
+no_job_words d plan i = (λ e. grind (arith, nat_tests), λ w. grind (arith, nat_tests))
 
 -- 13
 pub outside_words : (release deadline i : ℕ) → (not (leb release i && ltb i deadline) ≡ true) ↔ ((i < release) ⊎ (deadline ≤ i))
-outside_words release deadline i = (
-  (λ e.
-      ⊎_elim
-      (λ a. inr (ltb-false i deadline (⊎_elim (λ b. absurd (never_both (and_true (leb release i) _ a b) (not-true _ e))) (λ b. b) (either (ltb i deadline)))))
-      (λ a. inl (leb-false release i a))
-      (either (leb release i))),
-  (λ s.
-      ⊎_elim
-      (λ h. ap (λ (b : Bool). not (b && ltb i deadline)) (lt-leb release i h))
-      (λ h. ⊎_elim (λ a. ap not (ap (λ (b : Bool). b && ltb i deadline) a ∙ le-ltb i deadline h)) (λ a. ap (λ (b : Bool). not (b && ltb i deadline)) a) (either (leb release i)))
-      s),
-)
+outside_words release deadline i = (λ e. grind (arith, nat_tests), λ s. grind (arith, nat_tests))

@@ -15,5 +15,5 @@ fault_says (LacksSlots k) = refuses_at 16 k
 
 -- what a part of a plan is found to be
 abbrev pub finding_says : Result ⊤ PlanFault → Check
-finding_says (Ok done) = gives tt
+finding_says (Ok _) = gives tt
 finding_says (Err f) = fault_says f

@@ -15,13 +15,13 @@ returns-then-plan-day c h checks =
     let day = subst (Checks h) c.in_ok-day.was checks in
     says_eleven h (the_day c.in_ok-day.day) _ day.0 day.1 c.if-plan-day.true
 
-pub returns-in_err-judge_slots : goal.returns-in_err-judge_slots
-returns-in_err-judge_slots c h checks =
+pub returns-in_err-found : goal.returns-in_err-found
+returns-in_err-found c h checks =
     let day = subst (Checks h) c.in_ok-day.was checks in
-    let p = err_from_is_err_and c.from_residual-in_err-judge_slots.result c.from_residual-in_err-judge_slots.ensures.1 in
-    rw (p.1, p.2) (says_found h (the_day c.in_ok-day.day) _ day.0 day.1 c.if-plan-day.false _ c.in_err-judge_slots.ensures)
+    let p = err_from_is_err_and c.from_residual-in_err-found.result c.from_residual-in_err-found.ensures.1 in
+    rw (p.1, p.2) (says_found h (the_day c.in_ok-day.day) _ day.0 day.1 c.if-plan-day.false _ c.in_err-found.ensures)
 
 pub returns : goal.returns
 returns c h checks =
     let day = subst (Checks h) c.in_ok-day.was checks in
-    says_found h (the_day c.in_ok-day.day) _ day.0 day.1 c.if-plan-day.false _ c.in_ok-judge_slots.ensures
+    says_found h (the_day c.in_ok-day.day) _ day.0 day.1 c.if-plan-day.false _ c.in_ok-found.ensures

@@ -1,4 +1,4 @@
--- The loop keeps: the level and the slots that each job got are those of the plan as slot i begins, and no slot before i is refused.
+-- The loop keeps: the level, a number of 16 bits, and the slots that each job got are those of the plan as slot i begins, and no slot before i is refused.
 use Prim.Native.Nat.{◌<◌}
 use Rattle.sheet.specs.Checked.{the_day}
 use Rattle.plan_slots.proofs.Keeping.{Kept}
