@@ -1,14 +1,13 @@
--- Laws of bytes laid at a place: none, one run behind another, one byte or one record more, and a run laid at the front.
-use Prim.Native.Nat.{ℕ, suc, ◌+◌, ◌*◌, ◌≤◌, ◌<◌}
+-- Laws of bytes laid at a place: none, one run behind another, a stretch written over, and a run laid at the front.
+use Prim.Native.Nat.{ℕ, suc, ◌+◌, ◌≤◌}
 use mathlib.Core.Path.{◌≡◌, refl, sym, ap, ◌∙◌}
 use mathlib.Core.List.{List, [], ◌∷◌, ◌++◌}
 use native.Mathlib.Nat.{zero-add}
-use native.Mathlib.Numerals.{add-one}
 use native.Mathlib.Omega.{arith}
-use lib.ListN.{length, get_or, set, take, drop}
-use lib.Seq.{sets, sets-eq, length-take-le, take-suc}
-use Rattle.sheet.specs.Lists.{joined}
-use Rattle.sheet.proofs.Lists.{joined_more, joined_length}
+use lib.ListN.{length, set, take, drop}
+use lib.Seq.{sets, sets-eq, take-length}
+use borrow.Rule.Slice.PartMut.{put_mid}
+use Rattle.std.proofs.lemmas.Slice.{put_mid-paste}
 use Rattle.writer.specs.Laid.{Laid}
 
 -- a run stored right behind another is the two stored as one
@@ -26,17 +25,13 @@ pub laid_next : {l m n xs ys : List ℕ} {i j : ℕ} → Laid l i xs m → Laid 
 laid_next {l} {m} {n} {xs} {ys} {i} {j} a b e =
     record { stored = b.stored ∙ ap (λ (k : List ℕ). sets k j ys) a.stored ∙ sets_append xs ys l i j e }
 
--- one byte more of a run that is copied byte by byte
-pub laid_byte : {l m : List ℕ} {at : ℕ} (bytes : List ℕ) (i : ℕ) → Laid l at (take i bytes) m → i < length bytes
-    → Laid l at (take (i + 1) bytes) (set m (at + i) (get_or bytes i 0))
-laid_byte {l} {m} {at} bytes i a h =
-    let place : at + i ≡ at + length (take i bytes) = ap (λ (k : ℕ). at + k) (sym (length-take-le i bytes (omega arith))) in
-    rw (add-one, take-suc bytes i 0) (laid_next a (record { stored = refl }) place)
-
--- one record more, each as long as the others
-pub laid_record : {l m n : List ℕ} (f : ℕ → List ℕ) (width : ℕ) → ((k : ℕ) → length (f k) ≡ width) → (k : ℕ)
-    → Laid l 0 (joined f k) m → Laid m (width * k) (f k) n → Laid l 0 (joined f (k + 1)) n
-laid_record f width w k a b = rw joined_more (laid_next a b (omega (arith, joined_length f width w k)))
+-- a stretch that is written over is the bytes laid at its place
+pub laid_stretch : {l m bytes xs : List ℕ} {at k : ℕ} → m ≡ put_mid at k l xs → xs ≡ bytes → k ≡ length bytes → at + length bytes ≤ length l → Laid l at bytes m
+laid_stretch {l} {bytes = bytes} {xs = xs} {at = at} {k = k} is holds e h =
+    record {
+      stored = is ∙ put_mid-paste at k l xs bytes (length bytes) holds (sym e) refl
+          ∙ ap (λ (s : List ℕ). take at l ++ s ++ drop (at + length bytes) l) (take-length bytes) ∙ sym (sets-eq bytes l at h);
+    }
 
 -- laid at the front of a buffer that has room, the bytes stand before the rest of it
 pub laid_front : {l m xs : List ℕ} (n : ℕ) → Laid l 0 xs m → length xs ≡ n → n ≤ length l → m ≡ xs ++ drop n l

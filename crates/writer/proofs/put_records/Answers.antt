@@ -1,20 +1,18 @@
--- The invariant: the first k records are laid at the front.
-use mathlib.Core.Path.{◌≡◌, refl}
-use native.Mathlib.Omega.{arith}
+-- Record k is laid right behind the records before it.
+use Rattle.std.proofs.Common.{arith, ◌<◌}
+use Rattle.std.proofs.lemmas.List.{get_or-take}
 use Rattle.sheet.specs.Lists.{joined}
+use Rattle.sheet.specs.Table.{no_job}
 use Rattle.writer.proofs.Laying.{laid_none}
 use Rattle.writer.proofs.Parts.{records_laid}
-use borrow.Author.Rules.{rules}
 use Rattle.writer.proofs.put_records.Goals as goal
 
 pub loop-k-init : goal.loop-k-init
 unfolding joined
-loop-k-init c = (refl, search rules, refl, laid_none _ _)
+loop-k-init c = laid_none _ _
 
 pub loop-k-preserved : goal.loop-k-preserved
-loop-k-preserved c = (refl, search rules, search rules, search records_laid)
-
-pub returns : goal.returns
-returns c =
-    let at_end : c.loop-k.k ≡ c.args.t.count = omega arith in
-    rw at_end at c.loop-k.invariant.3
+loop-k-preserved c =
+    let t = c.args.day.table.now in
+    let in_table : c.loop-k.k < t.count = omega arith in
+    records_laid t _ c.loop-k.invariant (rw (get_or-take t.count t.jobs c.loop-k.k no_job in_table) at c.put_record.ensures)
