@@ -2,8 +2,6 @@
 // as over the table. Whoever sums makes them for itself; no call of another crate is handed columns.
 #![tactic(auto)]
 
-ghost use Rattle.std.specs.Prelude.{min, ◌≡◌};
-ghost use Rattle.sheet.specs.Table.{most_jobs};
 ghost use Rattle.columns.specs.Columns.{ColumnsOf};
 
 use sheet::Table;
@@ -18,32 +16,20 @@ pub const ENERGY: usize = 3 * sheet::MOST_JOBS;
 // Four columns.
 pub const LENGTH: usize = 4 * sheet::MOST_JOBS;
 
-// A table's jobs are at most 64: the number itself, or that.
-fn jobs_at_most(count: usize) -> usize
-    ensures { result ≡ min count most_jobs }
-{
-    if count < sheet::MOST_JOBS {
-        count
-    } else {
-        sheet::MOST_JOBS
-    }
-}
-
 // The release, the deadline, the slots wanted and the energy of job k stand at k, 64 + k, 128 + k and
 // 192 + k, for each of the first 64 jobs; zeros in the other places.
 pub fn by_columns(t: Table) -> [u16; LENGTH]
     ensures { ColumnsOf t result }
 {
-    let count = jobs_at_most(t.count);
+    let count = t.count.min(sheet::MOST_JOBS);
     let mut columns = [0u16; LENGTH];
-    let mut k = 0;
-    while k < count {
+    for k in 0..count {
         let j = t.jobs[k];
         columns[k] = j.release;
         columns[DEADLINE + k] = j.deadline;
         columns[WANTED + k] = j.wanted;
-        columns[ENERGY + k] = j.energy as u16;
-        k += 1;
+        // read where it stands, so that the proof knows it for a byte
+        columns[ENERGY + k] = u16::from(t.jobs[k].energy);
     }
     columns
 }

@@ -2,37 +2,26 @@
 // harvest of any slots in a row is the difference of two.
 #![tactic(auto)]
 
-ghost use Rattle.std.specs.Prelude.{min, ◌≡◌};
-ghost use Rattle.sheet.specs.Table.{most_slots};
+mod summed;
+
 ghost use Rattle.totals.specs.Totals.{TotalsOf};
+
+pub use summed::SummedDay;
 
 // An entry for each number of slots, from none to the longest day's.
 pub const ENTRIES: usize = sheet::MOST_SLOTS as usize + 1;
-
-// A day's slots are at most 1,440: the number itself, or that.
-fn day_at_most(slots: usize) -> usize
-    ensures { result ≡ min slots most_slots }
-{
-    if slots < sheet::MOST_SLOTS as usize {
-        slots
-    } else {
-        sheet::MOST_SLOTS as usize
-    }
-}
 
 // Entry k is what the first k slots harvest, for every k up to the harvest's length and 1,440; zeros
 // beyond.
 pub fn running(harvest: &[u8]) -> [u32; ENTRIES]
     ensures { TotalsOf harvest.now result }
 {
+    let slots = harvest.len().min(usize::from(sheet::MOST_SLOTS));
     let mut sums = [0u32; ENTRIES];
-    let mut sum: u32 = 0;
-    let slots = day_at_most(harvest.len());
-    let mut k = 0;
-    while k < slots {
-        sum += sheet::wide(sheet::counted(harvest[k]));
-        k += 1;
-        sums[k] = sum;
+    let mut sum = 0;
+    for (k, byte) in harvest[..slots].iter().enumerate() {
+        sum += u32::from(sheet::counted(*byte));
+        sums[k + 1] = sum;
     }
     sums
 }

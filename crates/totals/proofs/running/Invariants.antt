@@ -1,5 +1,5 @@
 -- The loop keeps: the sum is that of the first k slots, every entry up to k is its own total, and zeros stand behind it.
-use Prim.Native.Nat.{ℕ, min, ◌+◌, ◌-◌, ◌*◌, ◌≤◌, ◌<◌}
+use Prim.Native.Nat.{ℕ, ◌+◌, ◌*◌, ◌≤◌, ◌<◌}
 use mathlib.Core.Path.{◌≡◌}
 use lib.ListN.{length, get_or}
 use Rattle.sheet.specs.Table.{most_slots, most_counted}
@@ -8,10 +8,11 @@ use Rattle.totals.proofs.running.Given as goal
 
 abbrev pub invariant-loop-k : goal.invariant-loop-k
 invariant-loop-k l =
-    (l.k ≤ l.slots) × (l.slots ≡ min (length l.harvest) most_slots) × (l.sum ≡ total (harvest_at l.harvest) l.k) × (l.sum ≤ most_counted * l.k) × (length l.sums ≡ most_slots + 1)
-    × ((j : ℕ) → j ≤ l.k → get_or l.sums j 0 ≡ total (harvest_at l.harvest) j)
-    × ((j : ℕ) → l.k < j → get_or l.sums j 0 ≡ 0)
-    × ((j : ℕ) → get_or l.sums j 0 ≤ most_harvest)
-
-abbrev pub decreases-loop-k : goal.decreases-loop-k
-decreases-loop-k l = l.slots - l.k
+    record {
+      sum : l.sum ≡ total (harvest_at l.harvest) l.k;
+      within : l.sum ≤ most_counted * l.k;
+      long : length l.sums ≡ most_slots + 1;
+      entry : (j : ℕ) → j ≤ l.k → get_or l.sums j 0 ≡ total (harvest_at l.harvest) j;
+      beyond : (j : ℕ) → l.k < j → get_or l.sums j 0 ≡ 0;
+      small : (j : ℕ) → get_or l.sums j 0 ≤ most_harvest;
+    }
