@@ -14,16 +14,15 @@ use Rattle.sheet.specs.Table.{Day}
 use Rattle.sheet.proofs.Exactly.{either, never_both}
 use Rattle.choice.specs.Choosing.{smaller, earliest, deadline_of, left_of, ready, chosen, unfinished}
 use Rattle.choice.specs.declared.State.{State}
-use Rattle.choice.specs.declared.Choice.{Choice}
-use Rattle.choice.specs.declared.Choice.TheVariants.{Nobody, Job}
+use Rattle.std.specs.Prelude.{Option, Some, None}
 
 -- ---- the fold, one number more
 
-pub earliest_none : (test : ℕ → Bool) (deadline : ℕ → ℕ) → earliest test deadline 0 ≡ Nobody
+pub earliest_none : (test : ℕ → Bool) (deadline : ℕ → ℕ) → earliest test deadline 0 ≡ None
 unfolding earliest
 earliest_none test deadline = refl
 
-module _ (test : ℕ → Bool) (deadline : ℕ → ℕ) (n : ℕ) (so_far : Choice) (is : so_far ≡ earliest test deadline n) where
+module _ (test : ℕ → Bool) (deadline : ℕ → ℕ) (n : ℕ) (so_far : Option ℕ) (is : so_far ≡ earliest test deadline n) where
   pub earliest_passes : test n ≡ true → smaller deadline so_far n ≡ earliest test deadline (n + 1)
   unfolding earliest
   earliest_passes e = sym (ap (earliest test deadline) (add-one n) ∙ rw (e, is))
@@ -41,14 +40,14 @@ pub record IsEarliest (test : ℕ → Bool) (deadline : ℕ → ℕ) (n k : ℕ)
   pub smallest : (i : ℕ) → i < n → test i ≡ true → deadline k ≤ deadline i
   pub lowest : (i : ℕ) → i < k → test i ≡ true → deadline k < deadline i
 
-abbrev pub FoundAmong : (ℕ → Bool) → (ℕ → ℕ) → ℕ → Choice → Type 0
-FoundAmong test deadline n Nobody = (i : ℕ) → i < n → test i ≡ false
-FoundAmong test deadline n (Job k) = IsEarliest test deadline n k
+abbrev pub FoundAmong : (ℕ → Bool) → (ℕ → ℕ) → ℕ → Option ℕ → Type 0
+FoundAmong test deadline n None = (i : ℕ) → i < n → test i ≡ false
+FoundAmong test deadline n (Some k) = IsEarliest test deadline n k
 
 module _ (test : ℕ → Bool) (deadline : ℕ → ℕ) where
-  skipped : (n : ℕ) → test n ≡ false → (c : Choice) → FoundAmong test deadline n c → FoundAmong test deadline (suc n) c
-  skipped n e Nobody f = λ i h. elim (dec_lt i n) [ yes l ↦ f i l | no l ↦ let same : n ≡ i = omega arith in subst (λ (j : ℕ). test j ≡ false) same e ]
-  skipped n e (Job k) f =
+  skipped : (n : ℕ) → test n ≡ false → (c : Option ℕ) → FoundAmong test deadline n c → FoundAmong test deadline (suc n) c
+  skipped n e None f = λ i h. elim (dec_lt i n) [ yes l ↦ f i l | no l ↦ let same : n ≡ i = omega arith in subst (λ (j : ℕ). test j ≡ false) same e ]
+  skipped n e (Some k) f =
       let l = f.below in
       record {
         below = omega arith;
@@ -57,15 +56,15 @@ module _ (test : ℕ → Bool) (deadline : ℕ → ℕ) where
         lowest = f.lowest;
       }
 
-  taken : (n : ℕ) → test n ≡ true → (c : Choice) → FoundAmong test deadline n c → FoundAmong test deadline (suc n) (smaller deadline c n)
-  taken n e Nobody f =
+  taken : (n : ℕ) → test n ≡ true → (c : Option ℕ) → FoundAmong test deadline n c → FoundAmong test deadline (suc n) (smaller deadline c n)
+  taken n e None f =
       record {
         below = omega arith;
         passes = e;
         smallest = λ i h p. elim (dec_lt i n) [ yes m ↦ absurd (never_both p (f i m)) | no m ↦ let same : n ≡ i = omega arith in subst (λ (j : ℕ). deadline n ≤ deadline j) same (omega arith) ];
         lowest = λ i h p. absurd (never_both p (f i h));
       }
-  taken n e (Job k) f =
+  taken n e (Some k) f =
       let l = f.below in
       ⊎_elim
       (λ t.
@@ -100,11 +99,11 @@ module _ (test : ℕ → Bool) (deadline : ℕ → ℕ) where
       (either (test n))
 
 -- what is chosen is below the count, and passes
-pub chosen_passes : (test : ℕ → Bool) (deadline : ℕ → ℕ) (n k : ℕ) → earliest test deadline n ≡ Job k → IsEarliest test deadline n k
+pub chosen_passes : (test : ℕ → Bool) (deadline : ℕ → ℕ) (n k : ℕ) → earliest test deadline n ≡ Some k → IsEarliest test deadline n k
 chosen_passes test deadline n k e = subst (FoundAmong test deadline n) e (earliest_is test deadline n)
 
 -- The chosen job is ready, has the smallest deadline of the ready jobs, and among those the lowest number.
-pub chosen_is : (d : Day) (s : State) (k : ℕ) → chosen d s ≡ Job k → IsEarliest (ready d s) (deadline_of d) d.table.count k
+pub chosen_is : (d : Day) (s : State) (k : ℕ) → chosen d s ≡ Some k → IsEarliest (ready d s) (deadline_of d) d.table.count k
 unfolding chosen
 chosen_is d s k e = chosen_passes (ready d s) (deadline_of d) d.table.count k e
 
@@ -115,32 +114,32 @@ unfolding earliest
 earliest_same p q f g zero e h = refl
 earliest_same p q f g (suc n) e h =
     let before : earliest p f n ≡ earliest q g n = earliest_same p q f g n (λ k l. e k (omega arith)) (λ k l. h k (omega arith)) in
-    rw (e n (omega arith), before) (ap (λ (c : Choice). cond (q n) c (earliest q g n)) (beside (earliest q g n) refl))
+    rw (e n (omega arith), before) (ap (λ (c : Option ℕ). cond (q n) c (earliest q g n)) (beside (earliest q g n) refl))
   where
-    beside : (c : Choice) → earliest q g n ≡ c → smaller f c n ≡ smaller g c n
-    beside Nobody w = refl
-    beside (Job m) w =
+    beside : (c : Option ℕ) → earliest q g n ≡ c → smaller f c n ≡ smaller g c n
+    beside None w = refl
+    beside (Some m) w =
         let below = (chosen_passes q g n m w).below in
-        ap₂ (λ (a b : ℕ). cond (ltb a b) (Job n) (Job m)) (h n (omega arith)) (h m (omega arith))
+        ap₂ (λ (a b : ℕ). cond (ltb a b) (Some n) (Some m)) (h n (omega arith)) (h m (omega arith))
 
 -- nobody is found exactly where none passes
-pub nobody_passes : (test : ℕ → Bool) (deadline : ℕ → ℕ) (n : ℕ) → (earliest test deadline n ≡ Nobody) ↔ ((k : ℕ) → k < n → test k ≡ false)
+pub nobody_passes : (test : ℕ → Bool) (deadline : ℕ → ℕ) (n : ℕ) → (earliest test deadline n ≡ None) ↔ ((k : ℕ) → k < n → test k ≡ false)
 nobody_passes test deadline n = (
   (λ e. subst (FoundAmong test deadline n) e (earliest_is test deadline n)),
   (λ none. go (earliest test deadline n) refl none),
 )
   where
-    go : (c : Choice) → earliest test deadline n ≡ c → ((k : ℕ) → k < n → test k ≡ false) → earliest test deadline n ≡ Nobody
-    go Nobody e none = e
-    go (Job k) e none = let is = chosen_passes test deadline n k e in absurd (never_both is.passes (none k is.below))
+    go : (c : Option ℕ) → earliest test deadline n ≡ c → ((k : ℕ) → k < n → test k ≡ false) → earliest test deadline n ≡ None
+    go None e none = e
+    go (Some k) e none = let is = chosen_passes test deadline n k e in absurd (never_both is.passes (none k is.below))
 
 -- Nobody is chosen exactly where no job is ready.
-pub nobody_ready : (d : Day) (s : State) → (chosen d s ≡ Nobody) ↔ ((k : ℕ) → k < d.table.count → ready d s k ≡ false)
+pub nobody_ready : (d : Day) (s : State) → (chosen d s ≡ None) ↔ ((k : ℕ) → k < d.table.count → ready d s k ≡ false)
 unfolding chosen
 nobody_ready d s = nobody_passes (ready d s) (deadline_of d) d.table.count
 
 -- Nobody is unfinished exactly where every job got its slots.
-pub nobody_unfinished : (d : Day) (s : State) → (unfinished d s ≡ Nobody) ↔ ((k : ℕ) → k < d.table.count → left_of s k ≡ 0)
+pub nobody_unfinished : (d : Day) (s : State) → (unfinished d s ≡ None) ↔ ((k : ℕ) → k < d.table.count → left_of s k ≡ 0)
 unfolding unfinished
 nobody_unfinished d s =
     Iff.trans (nobody_passes (λ k. ltb 0 (left_of s k)) (deadline_of d) d.table.count) (

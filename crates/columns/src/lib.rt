@@ -18,8 +18,8 @@ pub const LENGTH: usize = 4 * sheet::MOST_JOBS;
 
 // The release, the deadline, the slots wanted and the energy of job k stand at k, 64 + k, 128 + k and
 // 192 + k, for each of the first 64 jobs; zeros in the other places.
-pub fn by_columns(t: Table) -> [u16; LENGTH]
-    ensures { ColumnsOf t result }
+pub fn by_columns(t: &Table) -> [u16; LENGTH]
+    ensures { ColumnsOf t.now result }
 {
     let count = t.count.min(sheet::MOST_JOBS);
     let mut columns = [0u16; LENGTH];

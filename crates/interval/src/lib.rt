@@ -4,11 +4,22 @@
 ghost use Rattle.std.specs.Prelude.{◌≡◌, ◌&&◌, leb};
 ghost use Rattle.interval.specs.Kinds.{IsOfKind};
 
+use std::fmt;
+
 // The two kinds of demand: slots of time, and charge.
 #[derive(Clone, Copy, Debug, PartialEq, Eq)]
 pub enum Kind {
     Time,
     Energy,
+}
+
+impl fmt::Display for Kind {
+    fn fmt<W: fmt::Write>(&self, f: &mut fmt::Formatter<W>) -> fmt::Result {
+        match self {
+            Kind::Time => f.write_str("time"),
+            Kind::Energy => f.write_str("energy"),
+        }
+    }
 }
 
 // A number that no kind has.

@@ -13,12 +13,11 @@ use Rattle.choice.specs.declared.State.{State}
 use Rattle.choice.specs.Choosing.{ready, chosen, deadline_of, left_of}
 use Rattle.slacks.specs.Slack.{slack_time, slack_energy, zero_or_less, is_below}
 use Rattle.rules.specs.Rules.{Ruled, idle, busy, decision_says, at_hand, first_rule, rule_for, rule_on, decided, next_state}
-use Rattle.choice.specs.declared.Choice.{Choice}
-use Rattle.choice.specs.declared.Choice.TheVariants.{Nobody, Job}
+use Rattle.std.specs.Prelude.{Option, Some, None}
 use Rattle.rules.specs.declared.BusyWhy.{BusyWhy}
 use Rattle.rules.specs.declared.BusyWhy.TheVariants.{Full, NoSlack, Free}
 use Rattle.rules.specs.declared.IdleWhy.{IdleWhy}
-use Rattle.rules.specs.declared.IdleWhy.TheVariants.{None, Empty, Saving}
+use Rattle.rules.specs.declared.IdleWhy.TheVariants.{Empty, Saving}
 use Rattle.rules.specs.declared.Decision.TheVariants.{Busy, Idle}
 use Rattle.sheet.proofs.Exactly.{either}
 use Rattle.sheet.proofs.Words.{and_right}
@@ -96,15 +95,15 @@ for_busy d s m r k e =
 
 -- a slot is busy only with the chosen job, and only where it can be paid
 pub busy_is_chosen : (d : Day) (s : State) (r k : ℕ) → decided d s ≡ busy r k
-    → (chosen d s ≡ Job k) × ((job_of d.table k).energy ≤ at_hand d s)
+    → (chosen d s ≡ Some k) × ((job_of d.table k).energy ≤ at_hand d s)
 unfolding decided
 busy_is_chosen d s r k e = go (chosen d s) refl
   where
-    go : (c : Choice) → chosen d s ≡ c → (chosen d s ≡ Job k) × ((job_of d.table k).energy ≤ at_hand d s)
-    go Nobody w = absurd (never_busy 1 r k (sym (ap (rule_on d s) w) ∙ e))
-    go (Job m) w =
+    go : (c : Option ℕ) → chosen d s ≡ c → (chosen d s ≡ Some k) × ((job_of d.table k).energy ≤ at_hand d s)
+    go None w = absurd (never_busy 1 r k (sym (ap (rule_on d s) w) ∙ e))
+    go (Some m) w =
         let b = for_busy d s m r k (sym (ap (rule_on d s) w) ∙ e) in
-        (w ∙ ap Job b.0, subst (λ (i : ℕ). (job_of d.table i).energy ≤ at_hand d s) b.0 b.1)
+        (w ∙ ap Some b.0, subst (λ (i : ℕ). (job_of d.table i).energy ≤ at_hand d s) b.0 b.1)
 
 -- so it is below the count, wants the slot and can be paid
 pub busy_facts : (d : Day) (s : State) (r k : ℕ) → decided d s ≡ busy r k
@@ -123,7 +122,7 @@ busy_rule NoSlack = 4
 busy_rule Free = 6
 
 abbrev pub idle_rule : IdleWhy → ℕ
-idle_rule None = 1
+idle_rule IdleWhy.None = 1
 idle_rule Empty = 2
 idle_rule Saving = 5
 
@@ -133,7 +132,7 @@ busy_says k NoSlack = refl
 busy_says k Free = refl
 
 pub idle_says : (why : IdleWhy) → decision_says (Idle why) ≡ idle (idle_rule why)
-idle_says None = refl
+idle_says IdleWhy.None = refl
 idle_says Empty = refl
 idle_says Saving = refl
 

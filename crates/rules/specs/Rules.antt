@@ -1,12 +1,11 @@
 -- "The slot run" in one slot: the six rules, and the next state.
-use Rattle.std.specs.Prelude.{ℕ, min, ◌+◌, ◌-◌, List, Bool, cond, ltb, set}
+use Rattle.std.specs.Prelude.{ℕ, min, ◌+◌, ◌-◌, List, Bool, cond, ltb, set, Option, Some, None}
 use Rattle.sheet.specs.Sums.{harvest_at}
 use Rattle.sheet.specs.Table.{job_of, Day}
-use Rattle.choice.specs.declared.Choice.{Choice}
-use Rattle.choice.specs.declared.Choice.TheVariants.{Nobody, Job}
 use Rattle.choice.specs.declared.State.{State}
 use Rattle.rules.specs.declared.BusyWhy.TheVariants.{Full, NoSlack, Free}
-use Rattle.rules.specs.declared.IdleWhy.TheVariants.{None, Empty, Saving}
+use Rattle.rules.specs.declared.IdleWhy.{IdleWhy}
+use Rattle.rules.specs.declared.IdleWhy.TheVariants.{Empty, Saving}
 use Rattle.rules.specs.declared.Decision.{Decision}
 use Rattle.rules.specs.declared.Decision.TheVariants.{Busy, Idle}
 use Rattle.choice.specs.Choosing.{chosen, deadline_of, left_of}
@@ -19,7 +18,7 @@ pub data Ruled : Type 0 where
 
 -- a decision as the paper writes it
 abbrev pub decision_says : Decision → Ruled
-decision_says (Idle None) = idle 1
+decision_says (Idle IdleWhy.None) = idle 1
 decision_says (Idle Empty) = idle 2
 decision_says (Busy k Full) = busy 3 k
 decision_says (Busy k NoSlack) = busy 4 k
@@ -46,9 +45,9 @@ rule_for d s k =
     first_rule (at_hand d s) energy d.table.capacity (zero_or_less (slack_time d s)) (is_below (slack_energy d s (deadline_of d k)) energy) k
 
 -- 1. nothing ready: idle, `none`
-abbrev pub rule_on : Day → State → Choice → Ruled
-rule_on d s Nobody = idle 1
-rule_on d s (Job k) = rule_for d s k
+abbrev pub rule_on : Day → State → Option ℕ → Ruled
+rule_on d s None = idle 1
+rule_on d s (Some k) = rule_for d s k
 
 unfoldable pub decided : Day → State → Ruled
 decided d s = rule_on d s (chosen d s)

@@ -5,6 +5,8 @@ ghost use Rattle.std.specs.Prelude.{◌≡◌, ◌||◌, ◌+◌, ltb};
 ghost use Rattle.sheet.specs.Table.{counted_as};
 ghost use Rattle.rules.specs.Rules.{decision_says, first_rule};
 
+use std::fmt;
+
 // Why a slot is busy.
 #[derive(Clone, Copy)]
 pub enum BusyWhy {
@@ -16,6 +18,16 @@ pub enum BusyWhy {
     Free,
 }
 
+impl fmt::Display for BusyWhy {
+    fn fmt<W: fmt::Write>(&self, f: &mut fmt::Formatter<W>) -> fmt::Result {
+        match self {
+            BusyWhy::Full => f.write_str("full"),
+            BusyWhy::NoSlack => f.write_str("noslack"),
+            BusyWhy::Free => f.write_str("free"),
+        }
+    }
+}
+
 // Why a slot is idle.
 #[derive(Clone, Copy)]
 pub enum IdleWhy {
@@ -25,6 +37,16 @@ pub enum IdleWhy {
     Empty,
     // Rule 5: coming work needs the charge.
     Saving,
+}
+
+impl fmt::Display for IdleWhy {
+    fn fmt<W: fmt::Write>(&self, f: &mut fmt::Formatter<W>) -> fmt::Result {
+        match self {
+            IdleWhy::None => f.write_str("none"),
+            IdleWhy::Empty => f.write_str("empty"),
+            IdleWhy::Saving => f.write_str("saving"),
+        }
+    }
 }
 
 // What a slot does: busy with a job, or idle, and why.

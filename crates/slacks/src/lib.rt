@@ -11,29 +11,25 @@ ghost use Rattle.std.specs.Prelude.{◌≡◌, cond, ◌&&◌, ◌+◌, ◌≤�
 pub fn pending_part(slot: u16, end: u16, deadline: u16, left: u16) -> u32
     ensures { (result ≡ cond (ltb slot deadline && leb deadline end) left 0) × (result ≤ 65535) }
 {
-    if slot < deadline {
-        if deadline <= end {
-            return left as u32;
-        }
+    if slot < deadline && deadline <= end {
+        u32::from(left)
+    } else {
+        0
     }
-    0
 }
 
 // A job's deadline is after the slot and it still wants slots, so slack time is asked of it.
 pub fn wants_slots(slot: u16, deadline: u16, left: u16) -> bool
     ensures { result ≡ (ltb slot deadline && ltb 0 left) }
 {
-    if deadline <= slot {
-        return false;
-    }
-    0 < left
+    slot < deadline && 0 < left
 }
 
 // The work pending up to a deadline fills the time to it: that job leaves a slack time of 0 or less.
 pub fn leaves_no_time(slot: u16, deadline: u16, pending: u32) -> bool
     ensures { result ≡ leb deadline (slot + pending) }
 {
-    (deadline as u64) <= (slot as u64) + (pending as u64)
+    u64::from(deadline) <= u64::from(slot) + u64::from(pending)
 }
 
 // ---- slack energy
@@ -43,22 +39,18 @@ pub fn leaves_no_time(slot: u16, deadline: u16, pending: u32) -> bool
 pub fn coming_part(slot: u16, end: u16, release: u16, deadline: u16, cost: u32) -> u32
     ensures { (result ≡ cond (ltb slot release && leb deadline end) cost 0) × (result ≤ cost) }
 {
-    if slot < release {
-        if deadline <= end {
-            return cost;
-        }
+    if slot < release && deadline <= end {
+        cost
+    } else {
+        0
     }
-    0
 }
 
 // A job comes with a deadline below the chosen job's own, so slack energy is asked of it.
 pub fn comes_before(slot: u16, release: u16, deadline: u16, own: u16) -> bool
     ensures { result ≡ (ltb slot release && ltb deadline own) }
 {
-    if release <= slot {
-        return false;
-    }
-    deadline < own
+    slot < release && deadline < own
 }
 
 // The level and the harvest up to a job's deadline do not cover the work that comes up to there and the
@@ -66,5 +58,5 @@ pub fn comes_before(slot: u16, release: u16, deadline: u16, own: u16) -> bool
 pub fn leaves_too_little(level: u16, harvest: u32, coming: u32, energy: u16) -> bool
     ensures { result ≡ ltb (level + harvest) (coming + energy) }
 {
-    (level as u64) + (harvest as u64) < (coming as u64) + (energy as u64)
+    u64::from(level) + u64::from(harvest) < u64::from(coming) + u64::from(energy)
 }

@@ -1,6 +1,5 @@
-pub mod Deciding
-pub mod Lending
+pub mod Asking
 pub mod Promised
 pub mod Running
-pub mod Taking
+pub mod Slots
 pub mod Theorems

@@ -8,12 +8,8 @@ use lib.ListN.{length, set, length-set}
 use Rattle.sheet.specs.Table.{most_jobs, idle_byte, Day}
 use Rattle.sheet.proofs.Lists.{over, over_none, over_more, over_all}
 use Rattle.choice.specs.declared.State.{State}
-use Rattle.rules.specs.Rules.{Ruled, idle, busy, decision_says, decided, next_state}
-use Rattle.rules.specs.declared.BusyWhy.{BusyWhy}
-use Rattle.rules.specs.declared.IdleWhy.{IdleWhy}
-use Rattle.rules.specs.declared.Decision.{Decision}
-use Rattle.rules.specs.declared.Decision.TheVariants.{Busy, Idle}
-use Rattle.rules.proofs.RuleLaws.{busy_facts, busy_says, idle_says}
+use Rattle.rules.specs.Rules.{Ruled, idle, busy, decided, next_state}
+use Rattle.rules.proofs.RuleLaws.{busy_facts}
 use Rattle.slot_run.specs.Run.{first_state, state_at, plan_byte, plan_of}
 
 pub state_first : (d : Day) → state_at d 0 ≡ first_state d
@@ -29,13 +25,6 @@ pub state_slot : (d : Day) (n : ℕ) → (state_at d n).slot ≡ n
 unfolding state_at next_state first_state
 state_slot d zero = refl
 state_slot d (suc n) = ap (λ (k : ℕ). k + 1) (state_slot d n) ∙ add-one n
-
--- the plan's byte of a decision
-pub idle_byte_lem : (d : Decision) (why : IdleWhy) → d ≡ Idle why → plan_byte (decision_says d) ≡ idle_byte
-idle_byte_lem d why e = ap (λ (x : Decision). plan_byte (decision_says x)) e ∙ ap plan_byte (idle_says why)
-
-pub busy_byte : (d : Decision) (k : ℕ) (why : BusyWhy) → d ≡ Busy k why → plan_byte (decision_says d) ≡ k
-busy_byte d k why e = ap (λ (x : Decision). plan_byte (decision_says x)) e ∙ ap plan_byte (busy_says k why)
 
 -- every byte of a plan fits
 pub small_byte : (d : Day) (s : State) → d.table.count ≤ most_jobs → plan_byte (decided d s) ≤ idle_byte

@@ -1,13 +1,13 @@
 -- What the first state and a step promise, for anything handed in and any state.
-use Rattle.std.specs.Prelude.{◌≡◌, cond, ltb, replicate}
+use Rattle.std.specs.Prelude.{◌≡◌, cond, ltb, replicate, Option, Some, None, Result, Ok, Err}
 use Rattle.sheet.specs.HandedIn.{HandedIn, check_says, day_in}
 use Rattle.sheet.specs.Paper.{Paper, gives, ◌else◌, where_given}
 use Rattle.sheet.specs.Refusals.{refusal_says, outcome_says}
 use Rattle.sheet.specs.Table.{most_jobs}
 use Rattle.choice.specs.declared.State.{State}
 use Rattle.slot_run.specs.declared.Start.{Start}
-use Rattle.slot_run.specs.declared.Stepped.{Stepped}
-use Rattle.slot_run.specs.declared.Stepped.TheVariants.{Refused, Over, Decided}
+use Rattle.sheet.specs.declared.Refusal.{Refusal}
+use Rattle.rules.specs.declared.Decision.{Decision}
 use Rattle.slot_run.specs.declared.StepResult.{StepResult}
 use Rattle.rules.specs.Rules.{Ruled, decision_says, decided, next_state}
 use Rattle.slot_run.specs.Run.{first_state}
@@ -31,10 +31,10 @@ pub data Turn : Type 0 where
   ruled : Ruled → Turn
 
 -- a step's answer as the paper writes it
-abbrev pub stepped_says : Stepped → Paper Turn
-stepped_says (Refused r) = refusal_says r
-stepped_says Over = gives over
-stepped_says (Decided d) = gives (ruled (decision_says d))
+abbrev pub stepped_says : Result (Option Decision) Refusal → Paper Turn
+stepped_says (Err r) = refusal_says r
+stepped_says (Ok None) = gives over
+stepped_says (Ok (Some d)) = gives (ruled (decision_says d))
 
 -- "a step answers "day over" only after these checks"
 unfoldable pub step_of : HandedIn → State → Paper Turn

@@ -5,74 +5,45 @@ mod earliest;
 mod slot;
 mod sums;
 
-ghost use Rattle.std.specs.Prelude.{◌≡◌, List, ℕ, ◌≤◌, ◌<◌, length};
-ghost use Rattle.sheet.specs.HandedIn.{on_table};
-ghost use Rattle.sheet.specs.Table.{most_jobs, day_of};
-ghost use Rattle.sheet.specs.WellFormed.{GoodDay};
-ghost use Rattle.totals.specs.Totals.{Summed};
+ghost use Rattle.std.specs.Prelude.{◌≡◌, length};
+ghost use Rattle.sheet.specs.Checked.{Checks, the_day};
+ghost use Rattle.sheet.specs.HandedIn.{HandedIn, on_table};
 ghost use Rattle.choice.specs.Choosing.{unfinished};
 ghost use Rattle.slot_run.specs.Run.{first_state, state_at, plan_of};
 ghost use Rattle.slot_run.specs.Promise.{Starts, Steps};
 
-pub use choice::{Choice, State};
+pub use choice::State;
 pub use rules::{BusyWhy, Decision, IdleWhy};
-use sheet::{Outcome, Refusal, Table};
+use sheet::{CheckedDay, Refusal, Table};
+use totals::SummedDay;
 
-// A step's answer.
-#[derive(Clone, Copy)]
-pub enum Stepped {
-    // The table or the harvest is refused: 3, 4, 5 or 6.
-    Refused(Refusal),
-    // The state's slot is past the last slot of the day.
-    Over,
-    // What the slot does.
-    Decided(Decision),
-}
-
-// What a step yields: its answer and the state after it, which is the state that was handed in
-// where the step was refused or the day is over.
+// What a step yields: what the slot does, or nothing where the state's slot is past the last slot of the
+// day, or the refusal, 3, 4, 5 or 6; and the state after it, which is the state that was handed in where the
+// step was refused or the day is over.
 #[derive(Clone, Copy)]
 pub struct StepResult {
-    pub answer: Stepped,
+    pub answer: Result<Option<Decision>, Refusal>,
     pub state: State,
 }
 
 // What starting a day yields. Where the table or the harvest is refused the state is all zeros.
 #[derive(Clone, Copy)]
 pub struct Start {
-    pub outcome: Outcome,
+    pub outcome: Result<(), Refusal>,
     pub state: State,
 }
 
-// A slot's own numbers: how many jobs there are, the capacity, the slot and the level as it begins,
-// the charge at hand in it, and what the slots before it harvested. Nothing is looked up by this slot:
-// one that is itself an index in the loop over the day is compared with releases and deadlines at an
-// index's width, and the sums over the jobs take twice as long.
-#[derive(Clone, Copy)]
-struct Now {
-    count: usize,
-    capacity: u16,
-    slot: u16,
-    level: u16,
-    charge: u32,
-    harvested: u32,
-}
-
-// The first state of a table of at most 64 jobs.
-fn first_state(t: Table) -> State
-    requires { t.count ≤ most_jobs }
-    ensures { (harvest : List ℕ) → result ≡ first_state (day_of t harvest) }
+// The first state of a day.
+fn first_state(day: CheckedDay) -> State
+    ensures { result ≡ first_state (the_day day.entry) }
 {
-    let count = t.count;
     let mut left = [0u16; sheet::MOST_JOBS];
-    let mut k = 0;
-    while k < count {
-        left[k] = t.jobs[k].wanted;
-        k += 1;
+    for k in 0..day.table.count {
+        left[k] = day.table.jobs[k].wanted;
     }
     State {
         slot: 0,
-        level: t.capacity,
+        level: day.table.capacity,
         left,
     }
 }
@@ -82,48 +53,42 @@ fn first_state(t: Table) -> State
 pub fn begin(t: Table, harvest: &[u8]) -> Start
     ensures { Starts (on_table t harvest.now) result }
 {
-    let outcome = sheet::check(t, harvest);
-    if let Outcome::Refused(_) = outcome {
-        return Start {
-            outcome,
+    match CheckedDay::new(&t, harvest) {
+        Ok(day) => Start {
+            outcome: Ok(()),
+            state: first_state(day),
+        },
+        Err(why) => Start {
+            outcome: Err(why),
             state: State {
                 slot: 0,
                 level: 0,
                 left: [0; sheet::MOST_JOBS],
             },
-        };
-    }
-    Start {
-        outcome,
-        state: first_state(t),
+        },
     }
 }
 
-// The step in a slot of a checked day.
-fn step_on(t: Table, harvest: &[u8], s: State) -> StepResult
-    requires { GoodDay (day_of t harvest.now) × (s.slot < t.slots) }
-    ensures { Steps (on_table t harvest.now) s result }
+// One step from a state of a day that was checked: what the slot does, or nothing where the day is over; or
+// the refusal of the check. The state is then the one after it.
+fn take_step(
+    checked: Result<CheckedDay, Refusal>,
+    s: &mut State,
+) -> Result<Option<Decision>, Refusal>
+    ensures { (h : HandedIn) → Checks h checked.entry → Steps h s.old (record { answer = result; state = s.new }) }
 {
-    let totals = totals::running(harvest);
-    let jobs = columns::by_columns(t);
-    let at = s.slot as usize;
-    let here = Now {
-        count: t.count,
-        capacity: t.capacity,
-        slot: s.slot,
-        level: s.level,
-        charge: rules::at_hand(s.level, harvest[at]),
-        harvested: totals[at],
-    };
-    let mut next = s;
-    let taken = slot::take_slot(here, &jobs, &totals, &mut next.left);
-    next.slot = s.slot + 1;
-    next.level = taken.level;
-    let decision = taken.decision;
-    StepResult {
-        answer: Stepped::Decided(decision),
-        state: next,
+    let day = checked?;
+    if day.table.slots <= s.slot {
+        return Ok(None);
     }
+    let totals = totals::running(day.harvest);
+    let jobs = columns::by_columns(day.table);
+    let summed = SummedDay {
+        day,
+        totals: &totals,
+    };
+    let at = s.slot as usize;
+    Ok(Some(slot::take_slot(summed, &jobs, at, s)))
 }
 
 // One step of the run, by the six rules, from any state at all: it looks for no overload and takes
@@ -132,52 +97,23 @@ fn step_on(t: Table, harvest: &[u8], s: State) -> StepResult
 pub fn step(t: Table, harvest: &[u8], s: State) -> StepResult
     ensures { Steps (on_table t harvest.now) s result }
 {
-    let outcome = sheet::check(t, harvest);
-    if let Outcome::Refused(why) = outcome {
-        return StepResult {
-            answer: Stepped::Refused(why),
-            state: s,
-        };
-    }
-    if t.slots <= s.slot {
-        return StepResult {
-            answer: Stepped::Over,
-            state: s,
-        };
-    }
-    step_on(t, harvest, s)
+    let mut state = s;
+    let answer = take_step(CheckedDay::new(&t, harvest), &mut state);
+    StepResult { answer, state }
 }
 
 // The whole run of a day: its plan, a byte a slot, and the job that is left unfinished at the smallest
-// deadline, ties the lowest number. Only for a day that was checked, with the running totals of its
-// harvest and a plan of slots bytes; `planner` calls it so, and nobody else.
-pub fn whole_run(
-    t: Table,
-    harvest: &[u8],
-    totals: &[u32; totals::ENTRIES],
-    plan: &mut [u8],
-) -> Choice
-    requires { Summed (day_of t harvest.now) totals.now × (length plan.old ≡ t.slots) }
-    ensures { (result ≡ unfinished (day_of t harvest.now) (state_at (day_of t harvest.now) t.slots)) × (plan.new ≡ plan_of (day_of t harvest.now)) }
+// deadline, ties the lowest number. Only for a plan of slots bytes; `planner` calls it so, and nobody else.
+pub fn whole_run(day: SummedDay, plan: &mut [u8]) -> Option<usize>
+    requires { length plan.old ≡ day.day.table.now.slots }
+    ensures unfinished { result ≡ unfinished (the_day day.entry.day) (state_at (the_day day.entry.day) day.entry.day.table.now.slots) }
+    ensures plan { plan.new ≡ plan_of (the_day day.entry.day) }
 {
-    let jobs = columns::by_columns(t);
-    let mut s = first_state(t);
-    let mut n = 0;
-    while n < plan.len() {
-        let here = Now {
-            count: t.count,
-            capacity: t.capacity,
-            slot: s.slot,
-            level: s.level,
-            charge: rules::at_hand(s.level, harvest[n]),
-            harvested: totals[n],
-        };
-        let taken = slot::take_slot(here, &jobs, totals, &mut s.left);
-        let decision = taken.decision;
+    let jobs = columns::by_columns(day.day.table);
+    let mut s = first_state(day.day);
+    for n in 0..plan.len() {
+        let decision = slot::take_slot(day, &jobs, n, &mut s);
         plan[n] = slot::plan_byte(decision);
-        s.slot = s.slot + 1;
-        s.level = taken.level;
-        n += 1;
     }
-    earliest::find_unfinished(t.count, &jobs, &s.left)
+    earliest::find_unfinished(day.day.table.count, &jobs, &s.left)
 }

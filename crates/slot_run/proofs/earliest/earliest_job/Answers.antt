@@ -1,19 +1,21 @@
--- The loop keeps: what is held is the choice among the jobs before k.
-use mathlib.Core.Path.{sym, ◌∙◌}
-use Rattle.choice.proofs.Choosing.{earliest_none, earliest_passes, earliest_fails}
-use borrow.Author.Rules.{rules}
-use Rattle.slot_run.proofs.earliest.earliest_job.Goals.{then-passes_test, else-passes_test}
+-- The loop keeps: what is held is the choice among the jobs before k, whatever the test says of them.
+use Rattle.std.proofs.Common.{◌≡◌, sym, ◌∙◌, arith}
+use Rattle.choice.proofs.Choosing.{earliest_none}
+use Rattle.slot_run.proofs.Asking.{chosen_more, chosen_past}
+use Rattle.slot_run.proofs.earliest.earliest_job.Goals.{then-test, else-test}
 use Rattle.slot_run.proofs.earliest.earliest_job.Goals as goal
 
 pub loop-k-init : goal.loop-k-init
-loop-k-init c = (search rules, sym (earliest_none _ _))
+loop-k-init g c = (tt, λ passes all. sym (earliest_none _ _))
+
+pub beside-so_far-requires : goal.beside-so_far-requires
+beside-so_far-requires g c = (omega (arith, c.requires.few), c.loop-k.invariant.0)
 
 pub loop-k-preserved : goal.loop-k-preserved
-loop-k-preserved c =
-    let tested = c.passes_test.ensures in (
-      search rules,
-      elim c.if-passes_test.branch [
-        | then-passes_test w ↦ w.so_far-is ∙ w.beside-so_far.ensures ∙ earliest_passes _ _ _ _ c.loop-k.invariant.1 (sym tested ∙ w.if-passes_test.true)
-        | else-passes_test w ↦ w.so_far-is ∙ earliest_fails _ _ _ _ c.loop-k.invariant.1 (sym tested ∙ w.if-passes_test.false)
-      ],
-    )
+loop-k-preserved g c = elim c.if-test.branch [
+  | then-test w ↦ chosen_more _ _ _ _ c.loop-k.invariant _ c.test.ensures _ w.if-test.true (w.so_far-is ∙ w.beside-so_far.ensures)
+  | else-test w ↦ chosen_past _ _ _ _ c.loop-k.invariant _ c.test.ensures _ w.if-test.false w.so_far-is
+]
+
+pub returns : goal.returns
+returns g c = let end : c.loop-k.k ≡ c.args.count = omega arith in let so_far = c.loop-k.invariant.1 in rw end at so_far

@@ -1,46 +1,62 @@
--- A busy slot's job has a place, wants the slot and can be paid; what is left follows the kind of the slot.
-use Prim.Native.Nat.{◌+◌, ◌<◌, ◌≤◌}
-use native.Mathlib.Omega.{arith}
-use lib.ListN.{get_or}
-use Rattle.sheet.specs.Table.{most_jobs}
-use Rattle.slot_run.proofs.Taking.{busy_can, idle_taken, busy_taken}
-use Rattle.slot_run.proofs.slot.take_slot.Goals.{In-Busy}
+-- The slot is one of the day; a busy slot's job has a place, wants the slot and can be paid; the next state follows the kind of the slot.
+use Rattle.std.proofs.Common.{◌≡◌, ◌∙◌, sym, ap, ℕ, ◌+◌, ◌-◌, ◌<◌, ◌≤◌, min, get_or, arith, refl}
+use Rattle.sheet.specs.Sums.{harvest_at}
+use Rattle.sheet.specs.Checked.{the_day}
+use Rattle.sheet.specs.Table.{most_jobs, job_of, Day}
+use Rattle.rules.specs.Rules.{busy, decision_says, at_hand, decided}
+use Rattle.rules.specs.declared.BusyWhy.{BusyWhy}
+use Rattle.rules.specs.declared.Decision.TheVariants.{Busy}
+use Rattle.rules.proofs.RuleLaws.{busy_rule, idle_says, busy_says, busy_facts, idle_leaves, busy_leaves, next_by_parts}
+use Rattle.slot_run.proofs.Slots.{shows}
+use Rattle.slot_run.proofs.slot.take_slot.Goals.{After-decide-decision, In-Busy, in-Idle, in-Busy}
 use Rattle.slot_run.proofs.slot.take_slot.Goals as goal
 
-can : (c : In-Busy)
-    → let k = c.in-Busy.k in
-    (k < most_jobs) × (1 ≤ get_or c.args.left.now k 0) × (get_or c.args.jobs.now (192 + k) 0 ≤ c.args.here.charge)
-can c = busy_can _ _ _ _ _ c.decide-decision.ensures _ _ c.in-Busy.is c.requires
+module _ (c : After-decide-decision) where
+  abbrev day : Day
+  day = the_day c.args.summed.day
 
-pub offset_bounds-left-k : goal.offset_bounds-left-k
-offset_bounds-left-k c = let may = can (goal.at.offset_bounds-left-k c).In-Busy in omega arith
+  does : decision_says c.decide-decision.result ≡ decided day c.args.s.now
+  does = c.decide-decision.ensures day (shows _ _ _ _ _ _ _ (record { good = c.args.summed.day.good; totals_are = c.args.summed.totals_are }) c.requires.columns c.requires.in_day c.at_hand-charge.ensures)
 
-pub bounds-left-k : goal.bounds-left-k
-bounds-left-k c = let may = can (goal.at.bounds-left-k c).In-Busy in omega arith
+  charge_is : c.at_hand-charge.result ≡ at_hand day c.args.s.now
+  charge_is = c.at_hand-charge.ensures ∙ ap (λ n. c.args.s.now.level + harvest_at c.args.summed.day.harvest.now n) c.requires.in_day.0
 
-pub overflow_sub-left : goal.overflow_sub-left
-overflow_sub-left c = let may = can (goal.at.overflow_sub-left c).In-Busy in omega arith
+  module _ (k : ℕ) (why : BusyWhy) (e : c.decide-decision.result ≡ Busy k why) where
+    is_busy : decided day c.args.s.now ≡ busy (busy_rule why) k
+    is_busy = sym does ∙ ap decision_says e ∙ busy_says k why
 
-pub offset_bounds-left-k-in-Busy : goal.offset_bounds-left-k-in-Busy
-offset_bounds-left-k-in-Busy c = let may = can (goal.at.offset_bounds-left-k-in-Busy c).In-Busy in omega arith
+    -- a busy slot's job has a place, wants the slot and can be paid
+    can : (k < most_jobs) × (1 ≤ get_or c.args.s.now.left k 0) × (get_or c.args.jobs.now (192 + k) 0 ≡ (job_of day.table k).energy)
+        × ((job_of day.table k).energy ≤ c.at_hand-charge.result)
+    can =
+        let facts = busy_facts day _ _ k is_busy in
+        let few : k < most_jobs = omega (arith, facts.0, c.args.summed.day.good.few_jobs) in
+        (few, facts.1, c.requires.columns.energy k facts.0 few, omega (arith, facts.2, charge_is))
 
-pub bounds-left-k-in-Busy : goal.bounds-left-k-in-Busy
-bounds-left-k-in-Busy c = let may = can (goal.at.bounds-left-k-in-Busy c).In-Busy in omega arith
+pub spend-spent-requires : goal.spend-spent-requires
+spend-spent-requires c = let may = can (goal.at.spend-spent-requires c).After-decide-decision c.in-Busy.k _ c.in-Busy.is in (may.0, may.1)
 
-pub overflow_add-k : goal.overflow_add-k
-overflow_add-k c = let may = can (goal.at.overflow_add-k c).In-Busy in omega arith
+pub overflow_sub-charge : goal.overflow_sub-charge
+overflow_sub-charge c =
+    let before = (goal.at.overflow_sub-charge c).After-decide-decision in
+    elim c.match-decision.branch [
+      | in-Idle w ↦ omega (arith, w.spent-is)
+      | in-Busy w ↦ let may = can before w.in-Busy.k _ w.in-Busy.is in omega (arith, w.spent-is, w.spend-spent.ensures.cost, may.2, may.3)
+    ]
 
-pub offset_bounds-jobs-k : goal.offset_bounds-jobs-k
-offset_bounds-jobs-k c = let may = can (goal.at.offset_bounds-jobs-k c).In-Busy in omega arith
-
-pub bounds-jobs-k : goal.bounds-jobs-k
-bounds-jobs-k c = let may = can (goal.at.bounds-jobs-k c).In-Busy in omega arith
-
-pub overflow_sub-here : goal.overflow_sub-here
-overflow_sub-here c = let may = can (goal.at.overflow_sub-here c).In-Busy in omega arith
-
-pub returns-in-Idle : goal.returns-in-Idle
-returns-in-Idle c = idle_taken _ _ _ _ _ c.decide-decision.ensures _ c.in-Idle.is _ c.cut.ensures
-
-pub returns-in-Busy : goal.returns-in-Busy
-returns-in-Busy c = busy_taken _ _ _ _ _ c.decide-decision.ensures _ _ c.in-Busy.is _ _ c.wide-spent.ensures c.cut-in-Busy.ensures
+pub returns-clause-next : goal.returns-clause-next
+returns-clause-next c =
+    let before = (goal.at.returns-clause-next c).After-decide-decision in
+    let d = day before in
+    let s = c.args.s.now in
+    elim c.match-decision.branch [
+      | in-Idle w ↦
+            let is = sym (does before) ∙ ap decision_says w.in-Idle.is ∙ idle_says w.in-Idle.field-0 in
+            let whole : c.at_hand-charge.result - c.match-decision.spent ≡ c.at_hand-charge.result = omega (arith, w.spent-is) in
+            rw w.s-is (next_by_parts d s _ _ (idle_leaves d s _ _ s.left (charge_is before) refl _ is (c.cut-s.ensures ∙ ap (min c.args.summed.day.table.now.capacity) whole)))
+      | in-Busy w ↦
+            let may = can before w.in-Busy.k _ w.in-Busy.is in
+            let price = w.spent-is ∙ w.spend-spent.ensures.cost ∙ may.2 in
+            rw (w.s-is, w.spend-spent.ensures.taken)
+            (next_by_parts d s _ _ (busy_leaves d s _ _ s.left (charge_is before) refl _ w.in-Busy.k _ (is_busy before w.in-Busy.k _ w.in-Busy.is) price c.cut-s.ensures))
+    ]
