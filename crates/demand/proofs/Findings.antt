@@ -7,16 +7,18 @@ use native.Mathlib.Nat.{not-suc-le-zero}
 use native.Mathlib.Decide.{dec_lt}
 use native.Mathlib.Omega.{arith}
 use lib.Dec.{ltb, eqb}
+use borrow.Author.Count.{below_more}
+use Rattle.std.specs.Prelude.{Option, Some, None}
+use Rattle.std.specs.Option.{option_or}
 use borrow.Author.Tests.{ltb-true, ltb-false, eq-eqb, eqb-true}
-use Rattle.sheet.proofs.Exactly.{either, never_both}
+use Rattle.sheet.proofs.Exactly.{either}
 use Rattle.sheet.proofs.Sums.{some_here, some_where}
 use Rattle.sheet.specs.Sums.{some}
 use Rattle.sheet.specs.Table.{job_of, Day}
 use Rattle.interval.specs.Demand.{Overloaded, overloaded}
-use Rattle.demand.specs.Search.{interval_of, is_release, is_deadline, found_at, ◌or_else◌, latest_start, smallest_end}
+use Rattle.demand.specs.Search.{interval_of, is_release, is_deadline, found_at, latest_start, smallest_end}
 use Rattle.interval.specs.declared.Kind.{Kind}
 use Rattle.interval.specs.declared.Kind.TheVariants.{Time, Energy}
-use Rattle.demand.specs.declared.Found.{Found}
 use Rattle.demand.specs.declared.Overload.{Overload}
 
 -- ---- a job's release and a job's deadline
@@ -37,32 +39,25 @@ deadline_exactly d = some_job (λ k. (job_of d.table k).deadline) d.table.count
 
 -- ---- a finding, under a test, and the first of two
 
-pub nothing_not : {o : Overload} {x : Found} → x ≡ Found.Nothing → x ≡ Found.Interval o → ⊥
-nothing_not p q = let z : ◌≡◌ {A = ℕ} 0 1 = cc in omega arith
+pub found_or_not : (x : Option Overload) → (x ≡ None) ⊎ ((o : Overload) × (x ≡ Some o))
+found_or_not None = inl refl
+found_or_not (Some o) = inr (o, refl)
 
-pub found_or_not : (x : Found) → (x ≡ Found.Nothing) ⊎ ((o : Overload) × (x ≡ Found.Interval o))
-found_or_not Found.Nothing = inl refl
-found_or_not (Found.Interval o) = inr (o, refl)
-
-nothing_when : (b : Bool) (x : Found) → cond b x Found.Nothing ≡ Found.Nothing → b ≡ true → x ≡ Found.Nothing
+nothing_when : (b : Bool) (x : Option Overload) → cond b x None ≡ None → b ≡ true → x ≡ None
 nothing_when true x e b = e
-nothing_when false x e b = absurd (never_both b refl)
+nothing_when false x e b = cc
 
-pub interval_when : (b : Bool) (x : Found) (o : Overload) → cond b x Found.Nothing ≡ Found.Interval o → (b ≡ true) × (x ≡ Found.Interval o)
+pub interval_when : (b : Bool) (x : Option Overload) (o : Overload) → cond b x None ≡ Some o → (b ≡ true) × (x ≡ Some o)
 interval_when true x o e = (refl, e)
-interval_when false x o e = absurd (nothing_not refl e)
+interval_when false x o e = absurd (cc)
 
-or_nothing : (x y : Found) → x or_else y ≡ Found.Nothing → (x ≡ Found.Nothing) × (y ≡ Found.Nothing)
-or_nothing Found.Nothing y e = (refl, e)
-or_nothing (Found.Interval o) y e = absurd (nothing_not e refl)
+or_nothing : (x y : Option Overload) → option_or x y ≡ None → (x ≡ None) × (y ≡ None)
+or_nothing None y e = (refl, e)
+or_nothing (Some o) y e = absurd (cc)
 
-or_interval : (x y : Found) (o : Overload) → x or_else y ≡ Found.Interval o → (x ≡ Found.Interval o) ⊎ ((x ≡ Found.Nothing) × (y ≡ Found.Interval o))
-or_interval Found.Nothing y o e = inr (refl, e)
-or_interval (Found.Interval p) y o e = inl e
-
--- what holds below n and of n holds below n + 1
-upto : (P : ℕ → Type 0) (n : ℕ) → ((i : ℕ) → i < n → P i) → P n → (i : ℕ) → i < suc n → P i
-upto P n before last i h = elim (dec_lt i n) [ yes l ↦ before i l | no l ↦ let same : n ≡ i = omega arith in subst P same last ]
+or_interval : (x y : Option Overload) (o : Overload) → option_or x y ≡ Some o → (x ≡ Some o) ⊎ ((x ≡ None) × (y ≡ Some o))
+or_interval None y o e = inr (refl, e)
+or_interval (Some p) y o e = inl e
 
 module _ (d : Day) where
   -- ---- one interval
@@ -76,8 +71,8 @@ module _ (d : Day) where
   -- one is found there, or neither kind is overloaded
   abbrev FoundAs : ℕ → ℕ → Type 0
   FoundAs from to =
-      ((o : Overload) × (found_at d from to ≡ Found.Interval o) × FoundBetween from to o)
-      ⊎ ((found_at d from to ≡ Found.Nothing) × ((kind : Kind) → Overloaded kind d from to → ⊥))
+      ((o : Overload) × (found_at d from to ≡ Some o) × FoundBetween from to o)
+      ⊎ ((found_at d from to ≡ None) × ((kind : Kind) → Overloaded kind d from to → ⊥))
 
   found_as : (from to : ℕ) → FoundAs from to
   unfolding found_at overloaded
@@ -98,40 +93,40 @@ module _ (d : Day) where
       neither a b Time = not_below _ _ a
       neither a b Energy = not_below _ _ b
 
-  pub found_between : (from to : ℕ) (o : Overload) → found_at d from to ≡ Found.Interval o → FoundBetween from to o
+  pub found_between : (from to : ℕ) (o : Overload) → found_at d from to ≡ Some o → FoundBetween from to o
   found_between from to o e =
-      ⊎_elim (λ w. let same : w.0 ≡ o = one w.0 (sym w.1 ∙ e) in subst (FoundBetween from to) same w.2) (λ w. absurd (nothing_not w.0 e)) (found_as from to)
+      ⊎_elim (λ w. let same : w.0 ≡ o = one w.0 (sym w.1 ∙ e) in subst (FoundBetween from to) same w.2) (λ w. let none = w.0 in absurd (cc)) (found_as from to)
     where
-      one : (p : Overload) → Found.Interval p ≡ Found.Interval o → p ≡ o
+      one : (p : Overload) → Some p ≡ Some o → p ≡ o
       one p e = cc
 
   -- ---- the starts for one end, and the ends: what a slot gives, nothing where it is no job's release or deadline
 
-  abbrev pub start_at : ℕ → ℕ → Found
-  start_at to from = cond (is_release d from) (found_at d from to) Found.Nothing
+  abbrev pub start_at : ℕ → ℕ → Option Overload
+  start_at to from = cond (is_release d from) (found_at d from to) None
 
-  abbrev pub end_at : ℕ → Found
-  end_at to = cond (is_deadline d to) (latest_start d to to) Found.Nothing
+  abbrev pub end_at : ℕ → Option Overload
+  end_at to = cond (is_deadline d to) (latest_start d to to) None
 
   -- a start that was tried and gave nothing is not overloaded
-  pub start_clear : (kind : Kind) (from to : ℕ) → start_at to from ≡ Found.Nothing → is_release d from ≡ true → Overloaded kind d from to → ⊥
+  pub start_clear : (kind : Kind) (from to : ℕ) → start_at to from ≡ None → is_release d from ≡ true → Overloaded kind d from to → ⊥
   start_clear kind from to e release =
-      ⊎_elim (λ w. absurd (nothing_not (nothing_when _ _ e release) w.1)) (λ w. w.1 kind) (found_as from to)
+      ⊎_elim (λ w. let none = nothing_when _ _ e release in let some_is = w.1 in absurd (cc)) (λ w. w.1 kind) (found_as from to)
 
-  latest_clear : (to n : ℕ) → latest_start d to n ≡ Found.Nothing → (i : ℕ) → i < n → start_at to i ≡ Found.Nothing
+  latest_clear : (to n : ℕ) → latest_start d to n ≡ None → (i : ℕ) → i < n → start_at to i ≡ None
   unfolding latest_start
   latest_clear to zero e i h = absurd (not-suc-le-zero h)
-  latest_clear to (suc n) e i h = let both = or_nothing (start_at to n) _ e in upto (λ i. start_at to i ≡ Found.Nothing) n (latest_clear to n both.1) both.0 i h
+  latest_clear to (suc n) e i h = let both = or_nothing (start_at to n) _ e in below_more (λ i. start_at to i ≡ None) n (latest_clear to n both.1) both.0 i (omega arith)
 
   -- one start below n gives this, and none after it gives anything
   pub record LatestAt (to n : ℕ) (o : Overload) (from : ℕ) : Type 0 where
     pub below : from < n
-    pub gives : start_at to from ≡ Found.Interval o
-    pub none_later : (i : ℕ) → i < n → from < i → start_at to i ≡ Found.Nothing
+    pub gives : start_at to from ≡ Some o
+    pub none_later : (i : ℕ) → i < n → from < i → start_at to i ≡ None
 
-  pub latest_finds : (to n : ℕ) (o : Overload) → latest_start d to n ≡ Found.Interval o → (from : ℕ) × LatestAt to n o from
+  pub latest_finds : (to n : ℕ) (o : Overload) → latest_start d to n ≡ Some o → (from : ℕ) × LatestAt to n o from
   unfolding latest_start
-  latest_finds to zero o e = absurd (nothing_not refl e)
+  latest_finds to zero o e = absurd (cc)
   latest_finds to (suc n) o e =
       ⊎_elim
       (λ here. (n, record { below = omega arith; gives = here; none_later = λ i a b. absurd (omega arith) }))
@@ -142,13 +137,13 @@ module _ (d : Day) where
         record {
           below = let b = l.below in omega arith;
           gives = l.gives;
-          none_later = upto (λ i. rest.0 < i → start_at to i ≡ Found.Nothing) n l.none_later (λ h. w.0);
+          none_later = λ i h. below_more (λ i. rest.0 < i → start_at to i ≡ None) n l.none_later (λ h. w.0) i (omega arith);
         },
       ))
       (or_interval (start_at to n) _ o e)
 
   -- where nothing is found up to slot n, no interval from a release to a deadline up to n is overloaded
-  pub tried_clear : (n : ℕ) → smallest_end d n ≡ Found.Nothing → (kind : Kind) (from to : ℕ) → from < to → to ≤ n
+  pub tried_clear : (n : ℕ) → smallest_end d n ≡ None → (kind : Kind) (from to : ℕ) → from < to → to ≤ n
       → is_release d from ≡ true → is_deadline d to ≡ true → Overloaded kind d from to → ⊥
   unfolding smallest_end
   tried_clear zero e kind from to h l release deadline over = omega arith
@@ -157,16 +152,16 @@ module _ (d : Day) where
       elim (dec_lt n to) [
         | yes m ↦
             let same : suc n ≡ to = omega arith in
-            let none : end_at to ≡ Found.Nothing = subst (λ (j : ℕ). end_at j ≡ Found.Nothing) same both.1 in
+            let none : end_at to ≡ None = subst (λ (j : ℕ). end_at j ≡ None) same both.1 in
             start_clear kind from to (latest_clear to to (nothing_when _ _ none deadline) from h) release over
         | no m ↦ tried_clear n both.0 kind from to h (omega arith) release deadline over
       ]
 
   -- what is found is found at an end up to which nothing else was
-  pub smallest_finds : (n : ℕ) (o : Overload) → smallest_end d n ≡ Found.Interval o
-      → (m : ℕ) × (m < n) × (smallest_end d m ≡ Found.Nothing) × (end_at (suc m) ≡ Found.Interval o)
+  pub smallest_finds : (n : ℕ) (o : Overload) → smallest_end d n ≡ Some o
+      → (m : ℕ) × (m < n) × (smallest_end d m ≡ None) × (end_at (suc m) ≡ Some o)
   unfolding smallest_end
-  smallest_finds zero o e = absurd (nothing_not refl e)
+  smallest_finds zero o e = absurd (cc)
   smallest_finds (suc n) o e =
       ⊎_elim
       (λ w. let rest = smallest_finds n o w in let l = rest.1 in (rest.0, omega arith, rest.2, rest.3))

@@ -7,6 +7,7 @@ use mathlib.Core.Logic.{◌↔◌, ⊎_elim}
 use native.Mathlib.Decide.{dec_lt}
 use native.Mathlib.Omega.{arith}
 use lib.Dec.{eqb}
+use Rattle.std.specs.Prelude.{Option, Some, None, Result, Ok, Err}
 use Rattle.sheet.specs.HandedIn.{HandedIn, day_in, Sound, States}
 use Rattle.sheet.specs.Paper.{Paper, gives, refuses, refuses_at}
 use Rattle.sheet.specs.Table.{job_of, Day}
@@ -18,9 +19,7 @@ use Rattle.interval.specs.Demand.{kind_number, demand_of, supply_of, Overloaded}
 use Rattle.demand.specs.Search.{Interval, overload_says, Answer, overloaded_is, none_is, found_says, searched_says, interval_of, is_release, is_deadline, first_overload, smallest_end, search_of, Searches}
 use Rattle.interval.specs.declared.Kind.{Kind}
 use Rattle.interval.specs.declared.Kind.TheVariants.{Time, Energy}
-use Rattle.demand.specs.declared.Found.{Found}
 use Rattle.demand.specs.declared.Overload.{Overload}
-use Rattle.demand.specs.declared.Searched.{Searched}
 use Rattle.demand.proofs.Findings.{release_exactly, deadline_exactly, found_or_not, interval_when, found_between, start_clear, latest_finds, tried_clear, smallest_finds}
 use Rattle.demand.proofs.Shrinking.{inner_clear}
 
@@ -46,14 +45,14 @@ NoneOverloaded d slots = (kind : Kind) (from to : ℕ) → from < to → to ≤ 
 
 module _ (d : Day) (good : GoodDay d) where
   -- where nothing is found up to a slot, no interval that ends there or before is overloaded
-  none_upto : (n : ℕ) → smallest_end d n ≡ Found.Nothing → NoneOverloaded d n
+  none_upto : (n : ℕ) → smallest_end d n ≡ None → NoneOverloaded d n
   none_upto n e kind from to h l =
       inner_clear d good kind to from to (omega arith) (λ from' to' a b c. tried_clear d n e kind from' to' b (omega arith)) h
 
-  pub finds_none : first_overload d ≡ Found.Nothing → NoneOverloaded d d.table.slots
+  pub finds_none : first_overload d ≡ None → NoneOverloaded d d.table.slots
   finds_none = none_upto d.table.slots
 
-  pub finds_first : (o : Overload) → first_overload d ≡ Found.Interval o → ComesFirst d o
+  pub finds_first : (o : Overload) → first_overload d ≡ Some o → ComesFirst d o
   finds_first o e =
       let end = smallest_finds d d.table.slots o e in
       let m = end.0 in
@@ -118,17 +117,17 @@ module _ (d : Day) (good : GoodDay d) where
       is_interval : (o : Overload) → ComesFirst d o → o ≡ interval_of o.kind d o.from o.to
       is_interval o a = λ i. record { kind = o.kind; from = o.from; to = o.to; demand = a.demand i; supply = a.supply i }
 
-  first_exactly : (o : Overload) → (first_overload d ≡ Found.Interval o) ↔ ComesFirst d o
+  first_exactly : (o : Overload) → (first_overload d ≡ Some o) ↔ ComesFirst d o
   first_exactly o = (
     finds_first o,
     (λ first.
         ⊎_elim
         (λ none. absurd (finds_none none o.kind o.from o.to first.in_order first.in_day first.overloaded))
-        (λ w. w.1 ∙ ap Found.Interval (first_one w.0 o (finds_first w.0 w.1) first))
+        (λ w. w.1 ∙ ap Some (first_one w.0 o (finds_first w.0 w.1) first))
         (found_or_not (first_overload d))),
   )
 
-  none_exactly : (first_overload d ≡ Found.Nothing) ↔ NoneOverloaded d d.table.slots
+  none_exactly : (first_overload d ≡ None) ↔ NoneOverloaded d d.table.slots
   none_exactly = (
     finds_none,
     (λ clear.
@@ -156,65 +155,63 @@ pub overload_back : (o : Overload) → overload_meant (overload_says o) ≡ o
 unfolding overload_meant
 overload_back o = λ i. record { kind = kind_back o.kind i; from = o.from; to = o.to; demand = o.demand; supply = o.supply }
 
-found_meant : Answer → Found
-found_meant (overloaded_is i) = Found.Interval (overload_meant i)
-found_meant none_is = Found.Nothing
+found_meant : Answer → Option Overload
+found_meant (overloaded_is i) = Some (overload_meant i)
+found_meant none_is = None
 
-found_back : (x : Found) → found_meant (found_says x) ≡ x
+found_back : (x : Option Overload) → found_meant (found_says x) ≡ x
 unfolding found_meant found_says
-found_back (Found.Interval o) = ap Found.Interval (overload_back o)
-found_back Found.Nothing = refl
+found_back (Some o) = ap Some (overload_back o)
+found_back None = refl
 
 -- two findings that the paper writes alike are the same
-pub found_one : (x y : Found) → found_says x ≡ found_says y → x ≡ y
+pub found_one : (x y : Option Overload) → found_says x ≡ found_says y → x ≡ y
 found_one x y e = sym (found_back x) ∙ ap found_meant e ∙ found_back y
 
 -- an answer of the search's own
-own_meant : Paper Answer → Searched
-own_meant (gives (overloaded_is i)) = Searched.Overloaded (overload_meant i)
-own_meant (gives none_is) = Searched.Clear
-own_meant (refuses n) = Searched.Clear
-own_meant (refuses_at n k) = Searched.Clear
+own_meant : Paper Answer → Result (Option Overload) Refusal
+own_meant (gives x) = Ok (found_meant x)
+own_meant (refuses n) = Ok None
+own_meant (refuses_at n k) = Ok None
 
-searched_meant : Paper Answer → Searched
-searched_meant a = by_refusal Searched.Refused (own_meant a) a
+searched_meant : Paper Answer → Result (Option Overload) Refusal
+searched_meant a = by_refusal Err (own_meant a) a
 
-searched_back : (r : Searched) → searched_meant (searched_says r) ≡ r
-unfolding searched_meant own_meant found_says by_refusal
-searched_back (Searched.Refused why) = by_refusal_lem Answer Searched.Refused _ why
-searched_back (Searched.Overloaded o) = ap Searched.Overloaded (overload_back o)
-searched_back Searched.Clear = refl
+searched_back : (r : Result (Option Overload) Refusal) → searched_meant (searched_says r) ≡ r
+unfolding searched_meant own_meant by_refusal
+searched_back (Ok found) = ap Ok (found_back found)
+searched_back (Err why) = by_refusal_lem Answer Err _ why
 
-pub says_one : (r q : Searched) → searched_says r ≡ searched_says q → r ≡ q
+pub says_one : (r q : Result (Option Overload) Refusal) → searched_says r ≡ searched_says q → r ≡ q
 says_one = said_one searched_says searched_meant searched_back
 
 -- ---- the theorems
 
 -- any two results that the promise allows are equal
-pub one_result : {h : HandedIn} {r q : Searched} → Searches h r → Searches h q → r ≡ q
+pub one_result : {h : HandedIn} {r q : Result (Option Overload) Refusal} → Searches h r → Searches h q → r ≡ q
 one_result {h} {r} {q} p s = says_one r q (p.answer ∙ sym s.answer)
 
-module _ (h : HandedIn) (r : Searched) (promised : Searches h r) where
-  answered : (q : Searched) → (r ≡ q) ↔ (search_of h ≡ searched_says q)
+module _ (h : HandedIn) (r : Result (Option Overload) Refusal) (promised : Searches h r) where
+  answered : (q : Result (Option Overload) Refusal) → (r ≡ q) ↔ (search_of h ≡ searched_says q)
   answered q = said_exactly searched_says searched_meant searched_back r q _ promised.answer
 
   -- a refusal is answered exactly when it is stated and nothing earlier applies
-  pub search_refused_exactly : (why : Refusal) → (r ≡ Searched.Refused why) ↔ GivenFirst (States h) why
+  pub search_refused_exactly : (why : Refusal) → (r ≡ Err why) ↔ GivenFirst (States h) why
   unfolding search_of
-  search_refused_exactly why = Iff.trans (answered (Searched.Refused why)) (handed_on_exactly h _ (own_given _) why)
+  search_refused_exactly why = Iff.trans (answered (Err why)) (handed_on_exactly h _ (own_given _) why)
 
   -- what is found is answered exactly when what was handed in is sound
-  found_exactly : (x : Found) {P : Type 0} → (GoodDay (day_in h) → (first_overload (day_in h) ≡ x) ↔ P) → (search_of h ≡ gives (found_says x)) ↔ (Sound h × P)
+  found_exactly : (x : Option Overload) {P : Type 0} → (GoodDay (day_in h) → (first_overload (day_in h) ≡ x) ↔ P) → (search_of h ≡ gives (found_says x)) ↔ (Sound h × P)
   unfolding search_of
   found_exactly x words =
       Iff.trans
-      (own_exactly h _ (gives (found_says x)) (own_given _) ((λ e. found_one _ x (cc)), (λ e. ap (λ (y : Found). gives (found_says y)) e)))
+      (own_exactly h _ (gives (found_says x)) (own_given _) ((λ e. found_one _ x (cc)), (λ e. ap (λ (y : Option Overload). gives (found_says y)) e)))
       ((λ g. (g.0, (words (sound_day h g.0)).0 g.1)), (λ g. (g.0, (words (sound_day h g.0)).1 g.1)))
 
   -- an interval is answered exactly when the day is well formed and that interval is the overloaded one that comes first
-  pub search_finds : (o : Overload) → (r ≡ Searched.Overloaded o) ↔ (Sound h × ComesFirst (day_in h) o)
-  search_finds o = Iff.trans (answered (Searched.Overloaded o)) (found_exactly (Found.Interval o) (λ good. first_exactly (day_in h) good o))
+  pub search_finds : (o : Overload) → (r ≡ Ok (Some o)) ↔ (Sound h × ComesFirst (day_in h) o)
+  search_finds o = Iff.trans (answered (Ok (Some o))) (found_exactly (Some o) (λ good. first_exactly (day_in h) good o))
 
   -- none is answered exactly when the day is well formed and no interval of it is overloaded, in either kind, whatever slots are its ends
-  pub search_clear : (r ≡ Searched.Clear) ↔ (Sound h × NoneOverloaded (day_in h) (day_in h).table.slots)
-  search_clear = Iff.trans (answered Searched.Clear) (found_exactly Found.Nothing (λ good. none_exactly (day_in h) good))
+  pub search_clear : (r ≡ Ok None) ↔ (Sound h × NoneOverloaded (day_in h) (day_in h).table.slots)
+  search_clear = Iff.trans (answered (Ok None)) (found_exactly None (λ good. none_exactly (day_in h) good))

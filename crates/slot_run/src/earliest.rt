@@ -77,11 +77,9 @@ pub fn find_unfinished(
     requires { count ≤ most_jobs }
     ensures { (d : Day) (s : State) → ColumnsOf d.table jobs.now → d.table.count ≡ count → s.left ≡ left.now → result ≡ unfinished d s }
 {
-    earliest_job(count, jobs, |k| choice::passes_test(
-        false,
-        0,
-        jobs[k],
-        jobs[columns::DEADLINE + k],
-        left[k],
-    ))
+    earliest_job(
+        count,
+        jobs,
+        |k| choice::passes_test(false, 0, jobs[k], jobs[columns::DEADLINE + k], left[k]),
+    )
 }

@@ -88,7 +88,10 @@ impl Slot<'_> {
         ensures is { (d : Day) → IsOf d self.now → result ≡ cond (is_coming d self.now.state.now end i) (cost_of (job_of d.table i)) 0 }
         ensures small { result ≤ most_cost }
     {
-        let cost = sheet::cost(self.jobs[columns::WANTED + i], self.jobs[columns::ENERGY + i] as u8);
+        let cost = sheet::cost(
+            self.jobs[columns::WANTED + i],
+            self.jobs[columns::ENERGY + i] as u8,
+        );
         slacks::coming_part(
             self.state.slot,
             end,
@@ -115,12 +118,13 @@ impl Slot<'_> {
         let slot = self.state.slot;
         let end = self.jobs[columns::DEADLINE + k];
         let own = self.jobs[columns::DEADLINE + chosen];
-        slacks::comes_before(slot, self.jobs[k], end, own) && slacks::leaves_too_little(
-            self.state.level,
-            self.totals[end as usize] - self.harvested,
-            self.coming_up_to(end),
-            self.jobs[columns::ENERGY + chosen],
-        )
+        slacks::comes_before(slot, self.jobs[k], end, own)
+            && slacks::leaves_too_little(
+                self.state.level,
+                self.totals[end as usize] - self.harvested,
+                self.coming_up_to(end),
+                self.jobs[columns::ENERGY + chosen],
+            )
     }
 
     // Slack energy is below the chosen job's energy: some job lacks the charge.

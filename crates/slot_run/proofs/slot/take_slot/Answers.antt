@@ -51,12 +51,12 @@ returns-clause-next c =
     let s = c.args.s.now in
     elim c.match-decision.branch [
       | in-Idle w ↦
-            let is = sym (does before) ∙ ap decision_says w.in-Idle.is ∙ idle_says w.in-Idle.field-0 in
-            let whole : c.at_hand-charge.result - c.match-decision.spent ≡ c.at_hand-charge.result = omega (arith, w.spent-is) in
-            rw w.s-is (next_by_parts d s _ _ (idle_leaves d s _ _ s.left (charge_is before) refl _ is (c.cut-s.ensures ∙ ap (min c.args.summed.day.table.now.capacity) whole)))
+          let is = sym (does before) ∙ ap decision_says w.in-Idle.is ∙ idle_says w.in-Idle.field-0 in
+          let whole : c.at_hand-charge.result - c.match-decision.spent ≡ c.at_hand-charge.result = omega (arith, w.spent-is) in
+          rw w.s-is (next_by_parts d s _ _ (idle_leaves d s _ _ s.left (charge_is before) refl _ is (c.cut-s.ensures ∙ ap (min c.args.summed.day.table.now.capacity) whole)))
       | in-Busy w ↦
-            let may = can before w.in-Busy.k _ w.in-Busy.is in
-            let price = w.spent-is ∙ w.spend-spent.ensures.cost ∙ may.2 in
-            rw (w.s-is, w.spend-spent.ensures.taken)
-            (next_by_parts d s _ _ (busy_leaves d s _ _ s.left (charge_is before) refl _ w.in-Busy.k _ (is_busy before w.in-Busy.k _ w.in-Busy.is) price c.cut-s.ensures))
+          let may = can before w.in-Busy.k _ w.in-Busy.is in
+          let price = w.spent-is ∙ w.spend-spent.ensures.cost ∙ may.2 in
+          rw (w.s-is, w.spend-spent.ensures.taken)
+          (next_by_parts d s _ _ (busy_leaves d s _ _ s.left (charge_is before) refl _ w.in-Busy.k _ (is_busy before w.in-Busy.k _ w.in-Busy.is) price c.cut-s.ensures))
     ]
