@@ -1,14 +1,12 @@
 -- "The planner's answer", on whatever was handed in.
-use Rattle.std.specs.Prelude.{ℕ, List, not, eqb, length}
+use Rattle.std.specs.Prelude.{ℕ, List, not, eqb, length, Option, Some, None}
 use Rattle.sheet.specs.HandedIn.{HandedIn, check_says, day_in}
 use Rattle.sheet.specs.Paper.{Paper, gives, refuses, ◌when◌, ◌else◌, where_given}
 use Rattle.sheet.specs.Table.{Day}
 use Rattle.demand.specs.Search.{Interval, overload_says, first_overload}
-use Rattle.demand.specs.declared.Found.{Found}
+use Rattle.demand.specs.declared.Overload.{Overload}
 use Rattle.choice.specs.Choosing.{unfinished}
 use Rattle.slot_run.specs.Run.{state_at, plan_of}
-use Rattle.choice.specs.declared.Choice.{Choice}
-use Rattle.choice.specs.declared.Choice.TheVariants.{Nobody, Job}
 
 -- the answer to a day that is planned
 pub data Verdict : Type 0 where
@@ -17,14 +15,14 @@ pub data Verdict : Type 0 where
   undecided : (job : ℕ) → Verdict
 
 -- "met if every job got its slots, else undecided with the job unfinished at the smallest deadline, ties the lowest number"
-abbrev pub by_unfinished : Choice → Verdict
-by_unfinished Nobody = met
-by_unfinished (Job k) = undecided k
+abbrev pub by_unfinished : Option ℕ → Verdict
+by_unfinished None = met
+by_unfinished (Some k) = undecided k
 
 -- "Overloaded interval: that interval .. Else the run"
-abbrev pub by_found : Found → Verdict → Verdict
-by_found (Found.Interval o) run = overloaded (overload_says o)
-by_found Found.Nothing run = run
+abbrev pub by_found : Option Overload → Verdict → Verdict
+by_found (Some o) run = overloaded (overload_says o)
+by_found None run = run
 
 unfoldable pub verdict_of : Day → Verdict
 verdict_of d = by_found (first_overload d) (by_unfinished (unfinished d (state_at d d.table.slots)))

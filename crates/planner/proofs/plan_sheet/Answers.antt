@@ -1,13 +1,6 @@
--- The sheet's own refusal, or the plan of the table and harvest that stand in it.
-use Rattle.reader.proofs.Harvesting.{read_good}
-use Rattle.planner.proofs.Promised.{refused_there, planned_there}
+-- The day of the reading is that of the sheet.
+use Rattle.reader.proofs.Harvesting.{hands_on_sheet}
 use Rattle.planner.proofs.plan_sheet.Goals as goal
 
-pub returns-in-Refused : goal.returns-in-Refused
-returns-in-Refused c = search refused_there
-
-pub plan_checked-requires : goal.plan_checked-requires
-plan_checked-requires c = search read_good
-
 pub returns : goal.returns
-returns c = search planned_there
+returns c = c.plan_day.ensures _ (hands_on_sheet _ _ c.read-reading.ensures _ c.day.ensures)
