@@ -22,7 +22,7 @@ use Rattle.totals.specs.Totals.{Summed}
 use Rattle.totals.proofs.Entries.{harvest_read_lem}
 use Rattle.interval.specs.Demand.{within, share_of}
 use Rattle.demand.specs.Search.{is_deadline, found_at, latest_start, smallest_end}
-use Rattle.demand.specs.Steps.{Totalled, most_due, DueBy, IsNext, NextDeadline}
+use Rattle.demand.specs.Steps.{Totalled, most_due, due_share, DueBy, IsNext, NextDeadline}
 use Rattle.interval.specs.declared.Kind.{Kind}
 use Rattle.demand.specs.declared.Overload.{Overload}
 use Rattle.demand.proofs.Findings.{release_exactly, deadline_exactly, start_at}
@@ -33,7 +33,7 @@ demand_up_to kind t from to n = total_of (λ k. within from to (job_of t k)) (λ
 
 -- one job more, by its release and by what is due of it as the code reads them
 pub demand_more : (kind : Kind) (t : Table) (from to n release amount more : ℕ) → release ≡ (job_of t n).release
-    → amount ≡ cond (leb (job_of t n).deadline to) (share_of kind (job_of t n)) 0 → more ≡ cond (leb from release) amount 0
+    → amount ≡ due_share kind t to n → more ≡ cond (leb from release) amount 0
     → demand_up_to kind t from to (n + 1) ≡ demand_up_to kind t from to n + more
 demand_more kind t from to n release amount more p q r =
     let split = both (leb from (job_of t n).release) (leb (job_of t n).deadline to) (share_of kind (job_of t n)) in
@@ -57,7 +57,7 @@ totalled d totals summed =
 -- ---- what is due, while it is set
 
 pub due_more : (kind : Kind) (t : Table) (to n : ℕ) (due : List ℕ) (amount : ℕ) → n < length due → DueBy kind t n to due
-    → amount ≡ cond (leb (job_of t n).deadline to) (share_of kind (job_of t n)) 0 → amount ≤ most_due kind → DueBy kind t (n + 1) to (set due n amount)
+    → amount ≡ due_share kind t to n → amount ≤ most_due kind → DueBy kind t (n + 1) to (set due n amount)
 due_more kind t to n due amount within before is most =
     record {
       share = below_more _ n (λ k h. kept k h ∙ before.share k h) (new ∙ is);

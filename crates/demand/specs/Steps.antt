@@ -21,9 +21,13 @@ abbrev pub most_due : Kind → ℕ
 most_due Time = 65535
 most_due Energy = most_cost
 
--- what each of the first n jobs demands of a kind where it is due by an end
+-- what job k demands of a kind where it is due by an end
+abbrev pub due_share : Kind → Table → ℕ → ℕ → ℕ
+due_share kind t to k = cond (leb (job_of t k).deadline to) (share_of kind (job_of t k)) 0
+
+-- that of each of the first n jobs
 pub record DueBy (kind : Kind) (t : Table) (n to : ℕ) (due : List ℕ) : Type 0 where
-  pub share : (k : ℕ) → k < n → get_or due k 0 ≡ cond (leb (job_of t k).deadline to) (share_of kind (job_of t k)) 0
+  pub share : (k : ℕ) → k < n → get_or due k 0 ≡ due_share kind t to k
   pub small : (k : ℕ) → k < n → get_or due k 0 ≤ most_due kind
 
 -- the demands of an interval, which no harvest changes
