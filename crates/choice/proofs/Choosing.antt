@@ -10,11 +10,11 @@ use native.Mathlib.Decide.{dec_lt}
 use native.Mathlib.Omega.{arith}
 use lib.Dec.{ltb}
 use borrow.Author.Tests.{ltb-true, ltb-false, le-ltb}
+use Rattle.std.specs.Prelude.{Option, Some, None}
 use Rattle.sheet.specs.Table.{Day}
 use Rattle.sheet.proofs.Exactly.{either, never_both}
 use Rattle.choice.specs.Choosing.{smaller, earliest, deadline_of, left_of, ready, chosen, unfinished}
 use Rattle.choice.specs.declared.State.{State}
-use Rattle.std.specs.Prelude.{Option, Some, None}
 
 -- ---- the fold, one number more
 

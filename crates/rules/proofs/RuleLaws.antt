@@ -8,12 +8,12 @@ use native.Mathlib.Omega.{arith}
 use lib.Dec.{ltb, leb}
 use lib.ListN.{get_or, set}
 use borrow.Author.Tests.{lt-ltb, le-ltb, ltb-true, ltb-false}
+use Rattle.std.specs.Prelude.{Option, Some, None}
 use Rattle.sheet.specs.Table.{job_of, Day}
 use Rattle.choice.specs.declared.State.{State}
 use Rattle.choice.specs.Choosing.{ready, chosen, deadline_of, left_of}
 use Rattle.slacks.specs.Slack.{slack_time, slack_energy, zero_or_less, is_below}
 use Rattle.rules.specs.Rules.{Ruled, idle, busy, decision_says, at_hand, first_rule, rule_for, rule_on, decided, next_state}
-use Rattle.std.specs.Prelude.{Option, Some, None}
 use Rattle.rules.specs.declared.BusyWhy.{BusyWhy}
 use Rattle.rules.specs.declared.BusyWhy.TheVariants.{Full, NoSlack, Free}
 use Rattle.rules.specs.declared.IdleWhy.{IdleWhy}

@@ -8,7 +8,7 @@ ghost use Rattle.rules.specs.Rules.{decision_says, first_rule};
 use std::fmt;
 
 // Why a slot is busy.
-#[derive(Clone, Copy)]
+#[derive(Clone, Copy, Debug, PartialEq, Eq)]
 pub enum BusyWhy {
     // Rule 3: what is at hand is above capacity, and would spill.
     Full,
@@ -29,7 +29,7 @@ impl fmt::Display for BusyWhy {
 }
 
 // Why a slot is idle.
-#[derive(Clone, Copy)]
+#[derive(Clone, Copy, Debug, PartialEq, Eq)]
 pub enum IdleWhy {
     // Rule 1: no job is ready.
     None,
@@ -50,7 +50,7 @@ impl fmt::Display for IdleWhy {
 }
 
 // What a slot does: busy with a job, or idle, and why.
-#[derive(Clone, Copy)]
+#[derive(Clone, Copy, Debug, PartialEq, Eq)]
 pub enum Decision {
     Busy(usize, BusyWhy),
     Idle(IdleWhy),

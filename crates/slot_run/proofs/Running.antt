@@ -4,7 +4,7 @@ use mathlib.Core.Path.{◌≡◌, refl, sym, ap, ◌∙◌}
 use mathlib.Core.List.{List}
 use native.Mathlib.Numerals.{add-one}
 use native.Mathlib.Omega.{arith}
-use lib.ListN.{length, set, length-set}
+use lib.ListN.{length, set}
 use Rattle.sheet.specs.Table.{most_jobs, idle_byte, Day}
 use Rattle.sheet.proofs.Lists.{over, over_none, over_more, over_all}
 use Rattle.choice.specs.declared.State.{State}
@@ -42,22 +42,18 @@ byte_at d n = plan_byte (decided d (state_at d n))
 
 -- as slot n begins: the state is that slot's, and the plan holds the bytes of the slots before it, over what was in the buffer
 pub record RunTo (d : Day) (buffer : List ℕ) (n : ℕ) (s : State) (plan : List ℕ) : Type 0 where
-  pub so_far : n ≤ length buffer
   pub state : s ≡ state_at d n
   pub bytes : plan ≡ over (byte_at d) buffer n
-  pub long : length plan ≡ length buffer
 
 pub run_none : (d : Day) (buffer : List ℕ) (s : State) → s ≡ first_state d → RunTo d buffer 0 s buffer
-run_none d buffer s e = record { so_far = omega arith; state = e ∙ sym (state_first d); bytes = over_none (byte_at d) buffer; long = refl }
+run_none d buffer s e = record { state = e ∙ sym (state_first d); bytes = over_none (byte_at d) buffer }
 
 pub run_more : (d : Day) (buffer : List ℕ) (n : ℕ) (s : State) (plan : List ℕ) → RunTo d buffer n s plan → n < length buffer
     → (next : State) (byte : ℕ) → next ≡ next_state d s → byte ≡ plan_byte (decided d s) → RunTo d buffer (n + 1) next (set plan n byte)
 run_more d buffer n s plan run h next byte e f =
     record {
-      so_far = omega arith;
       state = e ∙ ap (next_state d) run.state ∙ sym (state_next d n);
       bytes = rw (f ∙ ap (λ (x : State). plan_byte (decided d x)) run.state, run.bytes) (over_more (byte_at d) buffer n h);
-      long = simp length-set run.long;
     }
 
 pub run_all : (d : Day) (buffer : List ℕ) (n : ℕ) (s : State) (plan : List ℕ) → RunTo d buffer n s plan → length buffer ≡ d.table.slots → n ≡ d.table.slots

@@ -13,8 +13,8 @@ use totals::SummedDay;
 
 // A slot of a day, as its rules look at it: how many jobs there are, the capacity, the charge at hand in
 // it, what the slots before it harvested, the state as it begins, and the columns and totals of its day.
-// Nothing is looked up by this slot: one that is itself an index in the loop over the day is compared with
-// releases and deadlines at an index's width, and the sums over the jobs take twice as long.
+// Nothing is looked up by the state's slot: one that is itself an index in the loop over the day is compared
+// with releases and deadlines at an index's width, and the sums over the jobs take twice as long.
 #[derive(Clone, Copy)]
 pub struct Slot<'a> {
     pub count: usize,

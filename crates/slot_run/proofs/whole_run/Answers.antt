@@ -12,7 +12,7 @@ loop-n-init c = run_none _ _ _ (c.first_state-s.ensures)
 pub take_slot-decision-requires-clause-in_day : goal.take_slot-decision-requires-clause-in_day
 take_slot-decision-requires-clause-in_day c =
     let run = c.loop-n.invariant in
-    (sym (ap (λ (x : State). x.slot) run.state ∙ state_slot (the_day c.args.day.day) c.loop-n.n), omega (arith, run.long, c.requires))
+    (sym (ap (λ (x : State). x.slot) run.state ∙ state_slot (the_day c.args.day.day) c.loop-n.n), omega (arith, c.requires))
 
 pub plan_byte-requires : goal.plan_byte-requires
 plan_byte-requires c = rw c.take_slot-decision.ensures.decides (small_byte _ c.loop-n.s c.args.day.day.good.few_jobs)
