@@ -2,6 +2,9 @@
 #![tactic(auto)]
 
 use judge::{JudgedClaim, JudgedPlan, PlanFault, Sums};
+use lines::{Line, Refused};
+use std::fmt;
+use std::fmt::Write;
 
 // In a claim the start stands behind the kind, and the end behind the start.
 const START_FROM: usize = 8;
@@ -9,66 +12,84 @@ const START_FROM: usize = 8;
 const END_FROM: usize = 16;
 
 // REFUSAL, 11 to 16.
-fn fault(out: &mut [u8], at: usize, fault: PlanFault) -> usize {
-    let end = lines::refused(out, at, judge::number(fault));
-    match fault {
-        PlanFault::WrongLength => end,
-        PlanFault::LacksSlots(_) => lines::named(out, end, b" job ", judge::place(fault) as u64),
-        _ => lines::named(out, end, b" slot ", judge::place(fault) as u64),
+#[derive(Clone, Copy)]
+struct Fault(PlanFault);
+
+impl fmt::Display for Fault {
+    fn fmt<W: fmt::Write>(&self, f: &mut fmt::Formatter<W>) -> fmt::Result {
+        let fault = self.0;
+        write!(f, "refused {}", judge::number(fault))?;
+        match fault {
+            PlanFault::WrongLength => Ok(()),
+            PlanFault::LacksSlots(k) => write!(f, " job {k}"),
+            _ => write!(f, " slot {}", judge::place(fault)),
+        }
     }
 }
 
-// The judge's line for a plan.
-fn judged(out: &mut [u8], answer: JudgedPlan) -> usize {
-    let end = lines::word(out, 0, b"judge ");
-    match answer {
-        JudgedPlan::Refused(why) => lines::refusal(out, end, why),
-        JudgedPlan::Faulty(why) => fault(out, end, why),
-        JudgedPlan::Accepted => lines::word(out, end, b"accepted"),
+// The judge's answer to a plan.
+#[derive(Clone, Copy)]
+struct Judged(JudgedPlan);
+
+impl fmt::Display for Judged {
+    fn fmt<W: fmt::Write>(&self, f: &mut fmt::Formatter<W>) -> fmt::Result {
+        match self.0 {
+            JudgedPlan::Refused(why) => write!(f, "{}", Refused(why)),
+            JudgedPlan::Faulty(fault) => write!(f, "{}", Fault(fault)),
+            JudgedPlan::Accepted => f.write_str("accepted"),
+        }
     }
 }
 
 // `judge::plan_on_sheet`.
-fn plan_on_sheet(payload: &[u8], out: &mut [u8]) -> usize {
+fn plan_on_sheet(payload: &[u8], out: &mut Line<'_>) -> fmt::Result {
     let bytes = requests::bytes_at(payload, 0);
     let plan = requests::bytes_at(payload, requests::behind_bytes(payload, 0));
-    judged(out, judge::plan_on_sheet(bytes, plan))
+    write!(out, "judge {}", Judged(judge::plan_on_sheet(bytes, plan)))
 }
 
 // `judge::plan_on_table`.
-fn plan_on_table(payload: &[u8], out: &mut [u8]) -> usize {
+fn plan_on_table(payload: &[u8], out: &mut Line<'_>) -> fmt::Result {
     let t = requests::table_in(payload);
     let harvest = requests::harvest_in(payload);
     let plan = requests::bytes_at(payload, requests::behind_harvest(payload));
-    judged(out, judge::plan_on_table(t, harvest, plan))
+    write!(
+        out,
+        "judge {}",
+        Judged(judge::plan_on_table(t, harvest, plan))
+    )
 }
 
-// `accepted`, and what was weighed.
-fn accepted(out: &mut [u8], at: usize, sums: Sums) -> usize {
-    let end = lines::word(out, at, b"accepted");
-    lines::weighed(out, end, sums.demand, sums.supply)
+// What was weighed.
+#[derive(Clone, Copy)]
+struct Weighed(Sums);
+
+impl fmt::Display for Weighed {
+    fn fmt<W: fmt::Write>(&self, f: &mut fmt::Formatter<W>) -> fmt::Result {
+        let Sums { demand, supply } = self.0;
+        write!(f, "demand {demand} supply {supply}")
+    }
 }
 
-// REFUSAL, 18, and what was weighed.
-fn not_overloaded(out: &mut [u8], at: usize, number: u8, sums: Sums) -> usize {
-    let end = lines::refused(out, at, number);
-    lines::weighed(out, end, sums.demand, sums.supply)
-}
+// The judge's answer to a claim: behind `accepted` and 18 stands what was weighed.
+#[derive(Clone, Copy)]
+struct Claimed(JudgedClaim);
 
-// The judge's line for a claim.
-fn claimed(out: &mut [u8], answer: JudgedClaim) -> usize {
-    let number = judge::claim_number(answer);
-    let end = lines::word(out, 0, b"claim ");
-    match answer {
-        JudgedClaim::Refused(why) => lines::refusal(out, end, why),
-        JudgedClaim::NoInterval => lines::refused(out, end, number),
-        JudgedClaim::NotOverloaded(sums) => not_overloaded(out, end, number, sums),
-        JudgedClaim::Accepted(sums) => accepted(out, end, sums),
+impl fmt::Display for Claimed {
+    fn fmt<W: fmt::Write>(&self, f: &mut fmt::Formatter<W>) -> fmt::Result {
+        match self.0 {
+            JudgedClaim::Refused(why) => write!(f, "{}", Refused(why)),
+            JudgedClaim::NoInterval => write!(f, "refused {}", judge::NO_INTERVAL),
+            JudgedClaim::NotOverloaded(sums) => {
+                write!(f, "refused {} {}", judge::NOT_OVERLOADED, Weighed(sums))
+            }
+            JudgedClaim::Accepted(sums) => write!(f, "accepted {}", Weighed(sums)),
+        }
     }
 }
 
 // `judge::claim_on_sheet`.
-fn claim_on_sheet(payload: &[u8], out: &mut [u8]) -> usize {
+fn claim_on_sheet(payload: &[u8], out: &mut Line<'_>) -> fmt::Result {
     let claim = requests::behind(payload, requests::behind_bytes(payload, 0));
     let answer = judge::claim_on_sheet(
         requests::bytes_at(payload, 0),
@@ -76,11 +97,11 @@ fn claim_on_sheet(payload: &[u8], out: &mut [u8]) -> usize {
         requests::u64_at(claim, START_FROM),
         requests::u64_at(claim, END_FROM),
     );
-    claimed(out, answer)
+    write!(out, "claim {}", Claimed(answer))
 }
 
 // `judge::claim_on_table`.
-fn claim_on_table(payload: &[u8], out: &mut [u8]) -> usize {
+fn claim_on_table(payload: &[u8], out: &mut Line<'_>) -> fmt::Result {
     let claim = requests::behind(payload, requests::behind_harvest(payload));
     let answer = judge::claim_on_table(
         requests::table_in(payload),
@@ -89,17 +110,17 @@ fn claim_on_table(payload: &[u8], out: &mut [u8]) -> usize {
         requests::u64_at(claim, START_FROM),
         requests::u64_at(claim, END_FROM),
     );
-    claimed(out, answer)
+    write!(out, "claim {}", Claimed(answer))
 }
 
 // Makes the call of a request of these kinds, whose payload has its kind's parts, and puts its line into
-// `out`. It answers how many bytes of the line stand there: none where the kind is another.
-pub fn line(kind: u8, payload: &[u8], out: &mut [u8]) -> usize {
+// `out`. Nothing is made or put there where the kind is another.
+pub fn line(kind: u8, payload: &[u8], out: &mut Line<'_>) -> Option<fmt::Result> {
     match kind {
-        b'J' => plan_on_sheet(payload, out),
-        b'K' => plan_on_table(payload, out),
-        b'I' => claim_on_sheet(payload, out),
-        b'L' => claim_on_table(payload, out),
-        _ => 0,
+        b'J' => Some(plan_on_sheet(payload, out)),
+        b'K' => Some(plan_on_table(payload, out)),
+        b'I' => Some(claim_on_sheet(payload, out)),
+        b'L' => Some(claim_on_table(payload, out)),
+        _ => None,
     }
 }

@@ -1,186 +1,143 @@
-// The parts that the lines of docs/TRIALS.md have in common. A line is made in a space that is lent: a
-// function puts its part behind the `at` bytes that stand there and answers how many stand there now.
-// Where the space is full, what stands there is printed and the line goes on at its front.
+// A line of docs/TRIALS.md in the space that is lent for it, and what the lines have in common.
 #![tactic(auto)]
 
 ghost use Rattle.std.specs.Prelude.{◌≤◌, length};
-ghost use Rattle.sheet.specs.Table.{most_jobs};
 
 use sheet::{Job, Outcome, Refusal, Table};
+use std::fmt;
 
-// A byte.
-fn byte(out: &mut [u8], at: usize, byte: u8) -> usize
-    ensures { result ≤ length out.new }
-{
-    if at < out.len() {
-        out[at] = byte;
-        return at + 1;
+// A line: the first `end` bytes of the space. Where the space is full, what stands there is printed and
+// the line goes on at its front.
+#[derive(Drop)]
+pub struct Line<'a> {
+    space: &'a mut [u8],
+    end: usize,
+}
+
+impl Line<'_> {
+    // A line on which nothing stands yet.
+    pub fn new(space: &mut [u8]) -> Line<'_> {
+        Line { space, end: 0 }
     }
-    print::word(out);
-    if 0 < out.len() {
-        out[0] = byte;
-        return 1;
+
+    // A byte behind what stands there.
+    fn push(&mut self, byte: u8)
+        ensures { self.new.end ≤ length self.new.space.now }
+    {
+        if self.space.len() <= self.end {
+            print::word(self.space);
+            self.end = 0;
+        }
+        if self.end < self.space.len() {
+            self.space[self.end] = byte;
+            self.end += 1;
+        }
     }
-    0
-}
 
-// Bytes as they stand.
-pub fn word(out: &mut [u8], at: usize, word: &[u8]) -> usize {
-    let mut end = at;
-    let mut i = 0;
-    while i < word.len() {
-        end = byte(out, end, word[i]);
-        i += 1;
-    }
-    end
-}
-
-// A number in decimal.
-fn number(out: &mut [u8], at: usize, number: u64) -> usize {
-    let mut text = [0u8; 20];
-    let count = io::decimal(number, &mut text);
-    word(out, at, &text[..count])
-}
-
-// A word and a number behind it.
-pub fn named(out: &mut [u8], at: usize, name: &[u8], value: u64) -> usize {
-    let end = word(out, at, name);
-    number(out, end, value)
-}
-
-// A byte and a number behind it.
-pub fn marked(out: &mut [u8], at: usize, mark: u8, value: u64) -> usize {
-    let end = byte(out, at, mark);
-    number(out, end, value)
-}
-
-// The hexadecimal digit of a number's lowest four bits.
-fn digit(number: u8) -> u8 {
-    let low = number % 16;
-    if low < 10 {
-        b'0' + low
-    } else {
-        b'a' + (low - 10)
+    // Ends the line, and prints what stands there.
+    pub fn print(&mut self) {
+        self.push(b'\n');
+        let end = self.end;
+        print::word(&self.space[..end]);
+        self.end = 0;
     }
 }
 
-// Two digits for each of these bytes.
-fn digits(out: &mut [u8], at: usize, bytes: &[u8]) -> usize {
-    let mut end = at;
-    let mut i = 0;
-    while i < bytes.len() {
-        end = byte(out, end, digit(bytes[i] / 16));
-        end = byte(out, end, digit(bytes[i]));
-        i += 1;
+impl fmt::Write for Line<'_> {
+    fn write_str(&mut self, text: &str) -> fmt::Result {
+        for byte in text.as_bytes() {
+            self.push(*byte);
+        }
+        Ok(())
     }
-    end
 }
 
 // HEX.
-pub fn hex(out: &mut [u8], at: usize, bytes: &[u8]) -> usize {
-    if bytes.len() == 0 {
-        return word(out, at, b"none");
+#[derive(Clone, Copy)]
+pub struct Hex<'a>(pub &'a [u8]);
+
+impl fmt::Display for Hex<'_> {
+    fn fmt<W: fmt::Write>(&self, f: &mut fmt::Formatter<W>) -> fmt::Result {
+        if self.0.is_empty() {
+            return f.write_str("none");
+        }
+        for byte in self.0 {
+            write!(f, "{byte:02x}")?;
+        }
+        Ok(())
     }
-    digits(out, at, bytes)
-}
-
-// A buffer that was lent for writing, behind the answer.
-pub fn buffer(out: &mut [u8], at: usize, bytes: &[u8]) -> usize {
-    let end = word(out, at, b" buffer ");
-    hex(out, end, bytes)
-}
-
-// `refused` and a refusal's number.
-pub fn refused(out: &mut [u8], at: usize, number: u8) -> usize {
-    named(out, at, b"refused ", number as u64)
 }
 
 // REFUSAL, 1 to 6.
-pub fn refusal(out: &mut [u8], at: usize, why: Refusal) -> usize {
-    let end = refused(out, at, sheet::number(why));
-    match why {
-        Refusal::Window(_) | Refusal::Work(_) => {
-            named(out, end, b" record ", sheet::place(why) as u64)
+#[derive(Clone, Copy)]
+pub struct Refused(pub Refusal);
+
+impl fmt::Display for Refused {
+    fn fmt<W: fmt::Write>(&self, f: &mut fmt::Formatter<W>) -> fmt::Result {
+        let why = self.0;
+        write!(f, "refused {}", sheet::number(why))?;
+        match why {
+            Refusal::Window(_) | Refusal::Work(_) => write!(f, " record {}", sheet::place(why)),
+            _ => Ok(()),
         }
-        _ => end,
     }
 }
 
 // `accepted`, or REFUSAL.
-pub fn outcome(out: &mut [u8], at: usize, outcome: Outcome) -> usize {
-    match outcome {
-        Outcome::Accepted => word(out, at, b"accepted"),
-        Outcome::Refused(why) => refusal(out, at, why),
-    }
-}
+#[derive(Clone, Copy)]
+pub struct Checked(pub Outcome);
 
-// What was weighed: the demand and the supply of an interval.
-pub fn weighed(out: &mut [u8], at: usize, demand: u32, supply: u32) -> usize {
-    let end = named(out, at, b" demand ", demand as u64);
-    named(out, end, b" supply ", supply as u64)
-}
-
-// Whether a place of a table is all zeros.
-fn is_zeros(j: Job) -> bool {
-    j.release == 0 && j.deadline == 0 && j.wanted == 0 && j.energy == 0
-}
-
-// The places of a table up to the last that is not all zeros.
-fn used_places(t: Table) -> usize
-    ensures { result ≤ most_jobs }
-{
-    let mut count = sheet::MOST_JOBS;
-    while 0 < count {
-        let j = t.jobs[count - 1];
-        if !is_zeros(j) {
-            return count;
+impl fmt::Display for Checked {
+    fn fmt<W: fmt::Write>(&self, f: &mut fmt::Formatter<W>) -> fmt::Result {
+        match self.0 {
+            Outcome::Accepted => f.write_str("accepted"),
+            Outcome::Refused(why) => write!(f, "{}", Refused(why)),
         }
-        count -= 1;
     }
-    count
 }
 
 // A place of a table.
-fn job(out: &mut [u8], at: usize, j: Job) -> usize {
-    let mut end = marked(out, at, b' ', j.release as u64);
-    end = marked(out, end, b',', j.deadline as u64);
-    end = marked(out, end, b',', j.wanted as u64);
-    marked(out, end, b',', j.energy as u64)
+#[derive(Clone, Copy)]
+struct Place(Job);
+
+impl Place {
+    // Whether it is all zeros.
+    fn is_zeros(&self) -> bool {
+        let Job {
+            release,
+            deadline,
+            wanted,
+            energy,
+        } = self.0;
+        release == 0 && deadline == 0 && wanted == 0 && energy == 0
+    }
 }
 
-// The first places of a table.
-fn jobs(out: &mut [u8], at: usize, t: Table, count: usize) -> usize
-    requires { count ≤ most_jobs }
-{
-    let mut end = at;
-    let mut k = 0;
-    while k < count {
-        end = job(out, end, t.jobs[k]);
-        k += 1;
+impl fmt::Display for Place {
+    fn fmt<W: fmt::Write>(&self, f: &mut fmt::Formatter<W>) -> fmt::Result {
+        let j = self.0;
+        write!(f, "{},{},{},{}", j.release, j.deadline, j.wanted, j.energy)
     }
-    end
-}
-
-// The places of a table, or `none`.
-fn places(out: &mut [u8], at: usize, t: Table) -> usize {
-    let count = used_places(t);
-    if count == 0 {
-        return word(out, at, b" none");
-    }
-    jobs(out, at, t, count)
 }
 
 // TABLE.
-pub fn table(out: &mut [u8], at: usize, t: Table) -> usize {
-    let mut end = named(out, at, b" count ", t.count as u64);
-    end = named(out, end, b" slots ", t.slots as u64);
-    end = named(out, end, b" capacity ", t.capacity as u64);
-    end = word(out, end, b" places");
-    places(out, end, t)
-}
+#[derive(Clone, Copy)]
+pub struct Places(pub Table);
 
-// Ends the line behind the `at` bytes that stand there, and prints them.
-pub fn print_line(out: &mut [u8], at: usize) {
-    let end = byte(out, at, b'\n');
-    print::word(&out[0..end]);
+impl fmt::Display for Places {
+    fn fmt<W: fmt::Write>(&self, f: &mut fmt::Formatter<W>) -> fmt::Result {
+        let t = &self.0;
+        write!(
+            f,
+            "count {} slots {} capacity {} places",
+            t.count, t.slots, t.capacity
+        )?;
+        let Some(last) = t.jobs.iter().rposition(|j| !Place(*j).is_zeros()) else {
+            return f.write_str(" none");
+        };
+        for j in &t.jobs[..=last] {
+            write!(f, " {}", Place(*j))?;
+        }
+        Ok(())
+    }
 }

@@ -1,79 +1,73 @@
 // The calls of `demand` and `planner` that a request asks for, and the line of each (docs/TRIALS.md).
 #![tactic(auto)]
 
-use demand::{Kind, Overload, Searched};
+use demand::Searched;
+use lines::{Hex, Line, Refused};
 use planner::Planned;
+use std::fmt;
+use std::fmt::Write;
 
-// The kind of a demand.
-fn kind(out: &mut [u8], at: usize, kind: Kind) -> usize {
-    match kind {
-        Kind::Time => lines::word(out, at, b"time"),
-        Kind::Energy => lines::word(out, at, b"energy"),
+// The search's answer.
+#[derive(Clone, Copy)]
+struct Found(Searched);
+
+impl fmt::Display for Found {
+    fn fmt<W: fmt::Write>(&self, f: &mut fmt::Formatter<W>) -> fmt::Result {
+        match self.0 {
+            Searched::Refused(why) => write!(f, "{}", Refused(why)),
+            Searched::Overloaded(o) => write!(f, "{o}"),
+            Searched::Clear => f.write_str("clear"),
+        }
     }
-}
-
-// INTERVAL.
-fn interval(out: &mut [u8], at: usize, o: Overload) -> usize {
-    let which = o.kind;
-    let mut end = kind(out, at, which);
-    end = lines::marked(out, end, b' ', o.from as u64);
-    end = lines::marked(out, end, b' ', o.to as u64);
-    lines::weighed(out, end, o.demand, o.supply)
 }
 
 // `demand::search`.
-fn search(payload: &[u8], out: &mut [u8]) -> usize {
-    let end = lines::word(out, 0, b"search ");
-    match demand::search(requests::table_in(payload), requests::harvest_in(payload)) {
-        Searched::Refused(why) => lines::refusal(out, end, why),
-        Searched::Overloaded(o) => interval(out, end, o),
-        Searched::Clear => lines::word(out, end, b"clear"),
-    }
+fn search(payload: &[u8], out: &mut Line<'_>) -> fmt::Result {
+    let answer = demand::search(requests::table_in(payload), requests::harvest_in(payload));
+    write!(out, "search {}", Found(answer))
 }
 
 // The planner's answer.
-fn planned(out: &mut [u8], at: usize, answer: Planned) -> usize {
-    match answer {
-        Planned::Refused(why) => lines::refusal(out, at, why),
-        Planned::WrongPlan => lines::refused(out, at, planner::WRONG_PLAN),
-        Planned::Overloaded(o) => interval(out, at, o),
-        Planned::Met => lines::word(out, at, b"met"),
-        Planned::Undecided(k) => lines::named(out, at, b"undecided job ", k as u64),
+#[derive(Clone, Copy)]
+struct Verdict(Planned);
+
+impl fmt::Display for Verdict {
+    fn fmt<W: fmt::Write>(&self, f: &mut fmt::Formatter<W>) -> fmt::Result {
+        match self.0 {
+            Planned::Refused(why) => write!(f, "{}", Refused(why)),
+            Planned::WrongPlan => write!(f, "refused {}", planner::WRONG_PLAN),
+            Planned::Overloaded(o) => write!(f, "{o}"),
+            Planned::Met => f.write_str("met"),
+            Planned::Undecided(k) => write!(f, "undecided job {k}"),
+        }
     }
 }
 
-// The planner's line: its answer, and the plan buffer.
-fn plan(out: &mut [u8], answer: Planned, buffer: &[u8]) -> usize {
-    let mut end = lines::word(out, 0, b"plan ");
-    end = planned(out, end, answer);
-    lines::buffer(out, end, buffer)
-}
-
 // `planner::plan_sheet`.
-fn plan_sheet(payload: &[u8], space: &mut [u8], out: &mut [u8]) -> usize {
+fn plan_sheet(payload: &[u8], space: &mut [u8], out: &mut Line<'_>) -> fmt::Result {
     let room = requests::lend(payload, requests::behind_bytes(payload, 0), space);
-    let buffer = &mut space[0..room];
+    let buffer = &mut space[..room];
     let answer = planner::plan_sheet(requests::bytes_at(payload, 0), buffer);
-    plan(out, answer, buffer)
+    write!(out, "plan {} buffer {}", Verdict(answer), Hex(buffer))
 }
 
 // `planner::plan_table`.
-fn plan_table(payload: &[u8], space: &mut [u8], out: &mut [u8]) -> usize {
+fn plan_table(payload: &[u8], space: &mut [u8], out: &mut Line<'_>) -> fmt::Result {
     let room = requests::lend(payload, requests::behind_harvest(payload), space);
-    let buffer = &mut space[0..room];
+    let buffer = &mut space[..room];
     let t = requests::table_in(payload);
     let answer = planner::plan_table(t, requests::harvest_in(payload), buffer);
-    plan(out, answer, buffer)
+    write!(out, "plan {} buffer {}", Verdict(answer), Hex(buffer))
 }
 
 // Makes the call of a request of these kinds, whose payload has its kind's parts, and puts its line into
-// `out`; the bytes of a plan buffer that the call is lent stand in `space`. It answers how many bytes of
-// the line stand there: none where the kind is another.
-pub fn line(kind: u8, payload: &[u8], space: &mut [u8], out: &mut [u8]) -> usize {
+// `out`; the bytes of a plan buffer that the call is lent stand in `space`. Nothing is made or put there
+// where the kind is another.
+pub fn line(kind: u8, payload: &[u8], space: &mut [u8], out: &mut Line<'_>) -> Option<fmt::Result> {
     match kind {
-        b'S' => search(payload, out),
-        b'P' => plan_sheet(payload, space, out),
-        b'Q' => plan_table(payload, space, out),
-        _ => 0,
+        b'S' => Some(search(payload, out)),
+        b'P' => Some(plan_sheet(payload, space, out)),
+        b'Q' => Some(plan_table(payload, space, out)),
+        _ => None,
     }
 }

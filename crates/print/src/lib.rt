@@ -1,5 +1,7 @@
-// Words and numbers on standard output.
+// Standard output. A write that fails is passed over: the programs have nowhere else to say so.
 #![tactic(auto)]
+
+use std::fmt;
 
 const STANDARD_OUTPUT: i32 = 1;
 
@@ -8,13 +10,13 @@ pub fn word(text: &[u8]) {
     io::write_all(STANDARD_OUTPUT, text);
 }
 
-// Prints a number in decimal.
-pub fn number(n: usize) {
-    io::print_decimal(STANDARD_OUTPUT, n as u64);
-}
+// Standard output, as `write!` takes it.
+#[derive(Clone, Copy)]
+pub struct Output;
 
-// Prints `refused` and a refusal's number.
-pub fn refused(n: u8) {
-    word(b"refused ");
-    number(n as usize);
+impl fmt::Write for Output {
+    fn write_str(&mut self, text: &str) -> fmt::Result {
+        word(text.as_bytes());
+        Ok(())
+    }
 }

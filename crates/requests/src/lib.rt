@@ -5,9 +5,7 @@
 ghost use Rattle.std.specs.Prelude.{◌≤◌, ◌<◌, length};
 
 use sheet::{Job, Table};
-
-// The place behind a part that the payload does not hold. No payload is so long.
-const NOWHERE: usize = usize::MAX;
+use std::array;
 
 // The bytes of a u16, a u32 and a u64.
 const SHORT: usize = 2;
@@ -43,153 +41,106 @@ const NO_JOB: Job = Job {
     energy: 0,
 };
 
-// A byte, as wide as the numbers that bytes make up.
-fn wide(byte: u8) -> u16
-    ensures { result ≤ 255 }
-{
-    byte as u16
-}
-
-// The byte at a place; 0 behind the last.
-fn byte_at(bytes: &[u8], at: usize) -> u8 {
-    if at < bytes.len() { bytes[at] } else { 0 }
+// So many bytes from a place on; zeros where the bytes do not hold them all.
+fn array_at<const N: usize>(bytes: &[u8], at: usize) -> [u8; N] {
+    bytes
+        .get(at..)
+        .and_then(|part| part.first_chunk())
+        .copied()
+        .unwrap_or([0; N])
 }
 
 // The number in the two bytes from a place on, the lower first; 0 where the bytes do not hold both.
 pub fn u16_at(bytes: &[u8], at: usize) -> u16 {
-    if bytes.len() < SHORT {
-        return 0;
-    }
-    if bytes.len() - SHORT < at {
-        return 0;
-    }
-    let low = wide(bytes[at]);
-    let high = wide(bytes[at + 1]);
-    low + 256 * high
-}
-
-// The number of which these are the lower and the higher two bytes.
-fn joined(low: u16, high: u16) -> u64
-    ensures { result < 4294967296 }
-{
-    low as u64 + 65536 * high as u64
+    u16::from_le_bytes(array_at(bytes, at))
 }
 
 // The number in the four bytes from a place on, the lowest first; 0 where the bytes do not hold all.
 pub fn u32_at(bytes: &[u8], at: usize) -> u64
     ensures { result < 4294967296 }
 {
-    if bytes.len() < MIDDLE {
-        return 0;
-    }
-    if bytes.len() - MIDDLE < at {
-        return 0;
-    }
-    joined(u16_at(bytes, at), u16_at(bytes, at + SHORT))
+    u64::from(u32::from_le_bytes(array_at(bytes, at)))
 }
 
 // The number in the eight bytes from a place on, the lowest first; 0 where the bytes do not hold all.
 pub fn u64_at(bytes: &[u8], at: usize) -> u64 {
-    if bytes.len() < LONG {
-        return 0;
-    }
-    if bytes.len() - LONG < at {
-        return 0;
-    }
-    let low = u32_at(bytes, at);
-    let high = u32_at(bytes, at + MIDDLE);
-    low + 4294967296 * high
+    u64::from_le_bytes(array_at(bytes, at))
 }
 
-// The bytes from a place on; none where there are not so many.
-pub fn behind(bytes: &[u8], from: usize) -> &[u8] {
-    if bytes.len() < from {
-        return &bytes[..0];
-    }
-    &bytes[from..]
+// The bytes from a place on; none where there is no such place.
+pub fn behind(bytes: &[u8], from: Option<usize>) -> &[u8] {
+    from.and_then(|place| bytes.get(place..)).unwrap_or(&[])
 }
 
-// The first bytes, so many of them; none where there are not so many.
-fn first(bytes: &[u8], count: usize) -> &[u8] {
-    if bytes.len() < count {
-        return &bytes[..0];
-    }
-    &bytes[0..count]
+// The place behind so many bytes from a place on; None where the payload does not hold them.
+fn place_behind(payload: &[u8], at: usize, count: usize) -> Option<usize> {
+    let place = at.checked_add(count)?;
+    (place <= payload.len()).then_some(place)
 }
 
-// The place behind so many bytes from a place on.
-fn place_behind(payload: &[u8], at: usize, count: usize) -> usize {
-    if payload.len() < at {
-        return NOWHERE;
-    }
-    if payload.len() - at < count {
-        return NOWHERE;
-    }
-    at + count
+// The length that `bytes` start with, at a place.
+fn length_at(payload: &[u8], at: usize) -> usize {
+    u32_at(payload, at) as usize
 }
 
 // The place behind the `bytes` that start at a place: a length and that many bytes.
-pub fn behind_bytes(payload: &[u8], at: usize) -> usize {
-    let from = place_behind(payload, at, MIDDLE);
-    let length = u32_at(behind(payload, at), 0) as usize;
-    place_behind(payload, from, length)
+pub fn behind_bytes(payload: &[u8], at: usize) -> Option<usize> {
+    let from = place_behind(payload, at, MIDDLE)?;
+    place_behind(payload, from, length_at(payload, at))
+}
+
+// The `bytes` that start at a place.
+fn held_at(payload: &[u8], at: usize) -> Option<&[u8]> {
+    let length = length_at(payload, at);
+    payload.get(at..)?.get(MIDDLE..)?.get(..length)
 }
 
 // The `bytes` that start at a place; none where the payload does not hold them.
 pub fn bytes_at(payload: &[u8], at: usize) -> &[u8] {
-    let part = behind(payload, at);
-    let length = u32_at(part, 0) as usize;
-    first(behind(part, MIDDLE), length)
+    held_at(payload, at).unwrap_or(&[])
 }
 
 // How many jobs the table gives that a payload starts with.
 fn given_in(payload: &[u8]) -> usize
     ensures { result ≤ 255 }
 {
-    wide(byte_at(payload, GIVEN_FROM)) as usize
+    usize::from(payload.get(GIVEN_FROM).copied().unwrap_or(0))
 }
 
-// The place behind the table that a payload starts with; nowhere too where it gives more than 64 jobs.
-fn behind_table(payload: &[u8]) -> usize {
+// The place behind the table that a payload starts with; None too where it gives more than 64 jobs.
+fn behind_table(payload: &[u8]) -> Option<usize> {
     let given = given_in(payload);
     if sheet::MOST_JOBS < given {
-        return NOWHERE;
+        return None;
     }
     place_behind(payload, 0, JOBS_FROM + JOB * given)
 }
 
 // The place behind the table and the harvest that a payload starts with.
-pub fn behind_harvest(payload: &[u8]) -> usize {
-    behind_bytes(payload, behind_table(payload))
+pub fn behind_harvest(payload: &[u8]) -> Option<usize> {
+    behind_bytes(payload, behind_table(payload)?)
 }
 
 // A job of a table, in the 7 bytes from a place on; zeros where the bytes do not hold it.
 fn job_at(bytes: &[u8], at: usize) -> Job {
-    if bytes.len() < JOB {
-        return NO_JOB;
-    }
-    if bytes.len() - JOB < at {
-        return NO_JOB;
-    }
+    let job: [u8; JOB] = array_at(bytes, at);
     Job {
-        release: u16_at(bytes, at),
-        deadline: u16_at(bytes, at + 2),
-        wanted: u16_at(bytes, at + 4),
-        energy: bytes[at + 6],
+        release: u16_at(&job, 0),
+        deadline: u16_at(&job, 2),
+        wanted: u16_at(&job, 4),
+        energy: job[6],
     }
 }
 
 // The first `given` places hold the jobs of a table, and the others zeros.
 fn jobs_in(payload: &[u8], given: usize) -> [Job; sheet::MOST_JOBS] {
-    let mut jobs = [NO_JOB; sheet::MOST_JOBS];
-    let mut k = 0;
-    while k < sheet::MOST_JOBS {
+    array::from_fn(|k| {
         if k < given {
-            jobs[k] = job_at(payload, JOBS_FROM + JOB * k);
+            job_at(payload, JOBS_FROM + JOB * k)
+        } else {
+            NO_JOB
         }
-        k += 1;
-    }
-    jobs
+    })
 }
 
 // The table that a payload starts with.
@@ -204,53 +155,37 @@ pub fn table_in(payload: &[u8]) -> Table {
 
 // The harvest behind that table.
 pub fn harvest_in(payload: &[u8]) -> &[u8] {
-    bytes_at(payload, behind_table(payload))
+    bytes_at(behind(payload, behind_table(payload)), 0)
 }
 
 // What each of 64 places has left, in the bytes of a state.
 pub fn left_in(state: &[u8]) -> [u16; sheet::MOST_JOBS] {
-    let mut left = [0u16; sheet::MOST_JOBS];
-    for k in 0..sheet::MOST_JOBS {
-        left[k] = u16_at(state, LEFT_FROM + SHORT * k);
-    }
-    left
+    array::from_fn(|k| u16_at(state, LEFT_FROM + SHORT * k))
 }
 
-// The place behind the last part of a payload of that kind. A kind that has no name has no parts that
-// could be missing: there it is the payload's end.
-pub fn end(kind: u8, payload: &[u8]) -> usize {
+// The place behind the last part of a payload of that kind; None where a part is missing. A kind that has
+// no name has no parts that could be missing: there it is the payload's end.
+pub fn end(kind: u8, payload: &[u8]) -> Option<usize> {
     match kind {
         b'R' | b'H' | b'D' => behind_bytes(payload, 0),
-        b'X' => place_behind(payload, behind_bytes(payload, 0), LONG + SHORT),
-        b'P' | b'J' => behind_bytes(payload, behind_bytes(payload, 0)),
-        b'I' => place_behind(payload, behind_bytes(payload, 0), CLAIM),
+        b'X' => place_behind(payload, behind_bytes(payload, 0)?, LONG + SHORT),
+        b'P' | b'J' => behind_bytes(payload, behind_bytes(payload, 0)?),
+        b'I' => place_behind(payload, behind_bytes(payload, 0)?, CLAIM),
         b'C' | b'S' | b'B' => behind_harvest(payload),
-        b'W' | b'Q' | b'K' => behind_bytes(payload, behind_harvest(payload)),
-        b'N' => place_behind(payload, behind_harvest(payload), STATE),
-        b'L' => place_behind(payload, behind_harvest(payload), CLAIM),
-        _ => payload.len(),
+        b'W' | b'Q' | b'K' => behind_bytes(payload, behind_harvest(payload)?),
+        b'N' => place_behind(payload, behind_harvest(payload)?, STATE),
+        b'L' => place_behind(payload, behind_harvest(payload)?, CLAIM),
+        _ => Some(payload.len()),
     }
-}
-
-// Copies bytes to the front of a space, as many as it has room for, and answers how many.
-fn copy(bytes: &[u8], space: &mut [u8]) -> usize
-    ensures { result ≤ length space.new }
-{
-    let mut i = 0;
-    while i < bytes.len() {
-        if space.len() <= i {
-            return i;
-        }
-        space[i] = bytes[i];
-        i += 1;
-    }
-    i
 }
 
 // Copies the `bytes` that start at a place of a payload to the front of a space that is lent, as many as
-// it has room for, and answers how many.
-pub fn lend(payload: &[u8], at: usize, space: &mut [u8]) -> usize
+// it has room for, and answers how many; none where there is no such place.
+pub fn lend(payload: &[u8], at: Option<usize>, space: &mut [u8]) -> usize
     ensures { result ≤ length space.new }
 {
-    copy(bytes_at(payload, at), space)
+    let bytes = bytes_at(behind(payload, at), 0);
+    let count = bytes.len().min(space.len());
+    space[..count].copy_from_slice(&bytes[..count]);
+    count
 }

@@ -2,74 +2,79 @@
 // (docs/TRIALS.md).
 #![tactic(auto)]
 
+use lines::{Checked, Hex, Line, Places, Refused};
+use std::fmt;
+use std::fmt::Write;
 use writer::Written;
 
 // Behind the sheet of a stretch stand its count and then its slots.
 const SLOTS_FROM: usize = 8;
 
 // `sheet::check`.
-fn check(payload: &[u8], out: &mut [u8]) -> usize {
-    let end = lines::word(out, 0, b"check ");
+fn check(payload: &[u8], out: &mut Line<'_>) -> fmt::Result {
     let answer = sheet::check(requests::table_in(payload), requests::harvest_in(payload));
-    lines::outcome(out, end, answer)
+    write!(out, "check {}", Checked(answer))
 }
 
 // `reader::read`.
-fn read(payload: &[u8], out: &mut [u8]) -> usize {
+fn read(payload: &[u8], out: &mut Line<'_>) -> fmt::Result {
     let reading = reader::read(requests::bytes_at(payload, 0));
-    let outcome = reading.outcome;
-    let t = reading.table;
-    let mut end = lines::word(out, 0, b"read ");
-    end = lines::outcome(out, end, outcome);
-    lines::table(out, end, t)
+    write!(
+        out,
+        "read {} {}",
+        Checked(reading.outcome),
+        Places(reading.table)
+    )
 }
 
 // `reader::harvest`.
-fn harvest(payload: &[u8], out: &mut [u8]) -> usize {
-    let end = lines::word(out, 0, b"harvest ");
-    lines::hex(out, end, reader::harvest(requests::bytes_at(payload, 0)))
+fn harvest(payload: &[u8], out: &mut Line<'_>) -> fmt::Result {
+    let bytes = reader::harvest(requests::bytes_at(payload, 0));
+    write!(out, "harvest {}", Hex(bytes))
 }
 
 // `reader::stretch`.
-fn stretch(payload: &[u8], out: &mut [u8]) -> usize {
+fn stretch(payload: &[u8], out: &mut Line<'_>) -> fmt::Result {
     let bytes = requests::bytes_at(payload, 0);
     let counts = requests::behind(payload, requests::behind_bytes(payload, 0));
     let count = requests::u64_at(counts, 0) as usize;
     let slots = requests::u16_at(counts, SLOTS_FROM);
-    let end = lines::word(out, 0, b"stretch ");
-    lines::hex(out, end, reader::stretch(bytes, count, slots))
+    write!(out, "stretch {}", Hex(reader::stretch(bytes, count, slots)))
 }
 
 // The writer's answer.
-fn written(out: &mut [u8], at: usize, answer: Written) -> usize {
-    match answer {
-        Written::Length(length) => lines::named(out, at, b"length ", length as u64),
-        Written::Refused(why) => lines::refusal(out, at, why),
-        Written::NoRoom => lines::refused(out, at, writer::NO_ROOM),
+#[derive(Clone, Copy)]
+struct Answer(Written);
+
+impl fmt::Display for Answer {
+    fn fmt<W: fmt::Write>(&self, f: &mut fmt::Formatter<W>) -> fmt::Result {
+        match self.0 {
+            Written::Length(length) => write!(f, "length {length}"),
+            Written::Refused(why) => write!(f, "{}", Refused(why)),
+            Written::NoRoom => write!(f, "refused {}", writer::NO_ROOM),
+        }
     }
 }
 
 // `writer::write`.
-fn write(payload: &[u8], space: &mut [u8], out: &mut [u8]) -> usize {
+fn write(payload: &[u8], space: &mut [u8], out: &mut Line<'_>) -> fmt::Result {
     let room = requests::lend(payload, requests::behind_harvest(payload), space);
-    let buffer = &mut space[0..room];
+    let buffer = &mut space[..room];
     let t = requests::table_in(payload);
     let answer = writer::write(t, requests::harvest_in(payload), buffer);
-    let mut end = lines::word(out, 0, b"write ");
-    end = written(out, end, answer);
-    lines::buffer(out, end, buffer)
+    write!(out, "write {} buffer {}", Answer(answer), Hex(buffer))
 }
 
 // Makes the call of a request of these kinds, whose payload has its kind's parts, and puts its line into
-// `out`; the bytes of a buffer that the call is lent stand in `space`. It answers how many bytes of the
-// line stand there: none where the kind is another.
-pub fn line(kind: u8, payload: &[u8], space: &mut [u8], out: &mut [u8]) -> usize {
+// `out`; the bytes of a buffer that the call is lent stand in `space`. Nothing is made or put there where
+// the kind is another.
+pub fn line(kind: u8, payload: &[u8], space: &mut [u8], out: &mut Line<'_>) -> Option<fmt::Result> {
     match kind {
-        b'C' => check(payload, out),
-        b'R' => read(payload, out),
-        b'H' => harvest(payload, out),
-        b'X' => stretch(payload, out),
-        b'W' => write(payload, space, out),
-        _ => 0,
+        b'C' => Some(check(payload, out)),
+        b'R' => Some(read(payload, out)),
+        b'H' => Some(harvest(payload, out)),
+        b'X' => Some(stretch(payload, out)),
+        b'W' => Some(write(payload, space, out)),
+        _ => None,
     }
 }

@@ -4,6 +4,10 @@
 
 ghost use Rattle.std.specs.Prelude.{◌≤◌};
 
+use lines::Line;
+use std::fmt;
+use std::fmt::Write;
+
 const STANDARD_INPUT: i32 = 0;
 
 // A request starts with its kind and the length of its payload.
@@ -19,24 +23,12 @@ const LINE: usize = 65536;
 
 // Makes the call of a request whose payload has its kind's parts, and puts its line into `out`. Each of
 // the four that answer puts nothing there for a kind of another.
-fn line(kind: u8, payload: &[u8], space: &mut [u8], out: &mut [u8]) -> usize {
-    let mut end = sheet_answers::line(kind, payload, space, out);
-    if end != 0 {
-        return end;
-    }
-    end = run_answers::line(kind, payload, out);
-    if end != 0 {
-        return end;
-    }
-    end = plan_answers::line(kind, payload, space, out);
-    if end != 0 {
-        return end;
-    }
-    end = judge_answers::line(kind, payload, out);
-    if end != 0 {
-        return end;
-    }
-    lines::word(out, 0, b"unknown")
+fn line(kind: u8, payload: &[u8], space: &mut [u8], out: &mut Line<'_>) -> fmt::Result {
+    sheet_answers::line(kind, payload, space, out)
+        .or_else(|| run_answers::line(kind, payload, out))
+        .or_else(|| plan_answers::line(kind, payload, space, out))
+        .or_else(|| judge_answers::line(kind, payload, out))
+        .unwrap_or_else(|| write!(out, "unknown"))
 }
 
 // Answers a request.
@@ -49,23 +41,17 @@ fn answer(kind: u8, payload: &[u8], space: &mut [u8], out: &mut [u8]) {
         listing::print_day(requests::bytes_at(payload, 0));
         return;
     }
-    let end = line(kind, payload, space, out);
-    lines::print_line(out, end);
-}
-
-// The lesser of two numbers.
-fn lesser(a: usize, b: usize) -> usize
-    ensures { (result ≤ a) × (result ≤ b) }
-{
-    if a < b { a } else { b }
+    let mut out = Line::new(out);
+    let _ = line(kind, payload, space, &mut out);
+    out.print();
 }
 
 // Reads at most so many bytes of the input, into the space, and answers how many.
 fn read_some(most: usize, space: &mut [u8]) -> usize
     ensures { result ≤ most }
 {
-    let room = lesser(most, space.len());
-    io::read_full(STANDARD_INPUT, &mut space[0..room])
+    let room = most.min(space.len());
+    io::read_full(STANDARD_INPUT, &mut space[..room])
 }
 
 // Reads past so many bytes of the input; false where it ends before.
@@ -97,7 +83,7 @@ fn answer_next(kind: u8, length: usize, room: &mut [u8], space: &mut [u8], out: 
         print::word(b"too long\n");
         return true;
     }
-    let payload = &mut room[0..length];
+    let payload = &mut room[..length];
     if io::read_full(STANDARD_INPUT, payload) < length {
         return cut_off();
     }
@@ -119,12 +105,13 @@ fn next(room: &mut [u8], space: &mut [u8], out: &mut [u8]) -> bool {
     answer_next(head[0], length, room, space, out)
 }
 
-// A proved loop has to end, and nothing says that the input does. So it counts its turns down, from a
-// number that no run uses up.
+// A proved loop has to end, and nothing says that the input does. So its turns are counted, up to a
+// number that no run reaches.
 fn answer_all(room: &mut [u8], space: &mut [u8], out: &mut [u8]) {
-    let mut turns = u64::MAX;
-    while turns > 0 && next(room, space, out) {
-        turns -= 1;
+    for _ in 0..u64::MAX {
+        if !next(room, space, out) {
+            return;
+        }
     }
 }
 

@@ -7,14 +7,14 @@ ruleset standing = (slot_in_plan, slot_is_jobs_13, slot_is_jobs_14, slot_is_jobs
 pub byte_of-requires : goal.byte_of-requires
 byte_of-requires c = search standing
 
-pub job_in-requires : goal.job_in-requires
-job_in-requires c = search standing
+pub job_in-j-requires : goal.job_in-j-requires
+job_in-j-requires c = search standing
 
-pub job_in-requires-in-HasAllSlots : goal.job_in-requires-in-HasAllSlots
-job_in-requires-in-HasAllSlots c = search standing
+pub job_in-j-requires-in-HasAllSlots : goal.job_in-j-requires-in-HasAllSlots
+job_in-j-requires-in-HasAllSlots c = search standing
 
-pub job_in-requires-in-LacksCharge : goal.job_in-requires-in-LacksCharge
-job_in-requires-in-LacksCharge c = search standing
+pub job_in-j-requires-in-LacksCharge : goal.job_in-j-requires-in-LacksCharge
+job_in-j-requires-in-LacksCharge c = search standing
 
-pub job_of-requires : goal.job_of-requires
-job_of-requires c = search standing
+pub job_of-j-requires : goal.job_of-j-requires
+job_of-j-requires c = search standing
