@@ -10,6 +10,7 @@ use lib.Dec.{ltb}
 use lib.ListN.{get_or, set}
 use lib.Seq.{get_or-set_same, get_or-set_other}
 use borrow.Author.Tests.{le-leb, lt-leb, ltb-true, ltb-false}
+use Rattle.std.specs.Prelude.{Option, Some, None}
 use Rattle.sheet.specs.Sums.{harvest_at, harvest_of}
 use Rattle.sheet.specs.Table.{most_jobs, job_of, cost_of, Day}
 use Rattle.sheet.specs.WellFormed.{GoodDay}
@@ -21,8 +22,6 @@ use Rattle.interval.specs.Demand.{within, demand_of, Overloaded}
 use Rattle.interval.specs.declared.Kind.{Kind}
 use Rattle.interval.specs.declared.Kind.TheVariants.{Time, Energy}
 use Rattle.demand.proofs.Shrinking.{not_empty}
-use Rattle.choice.specs.declared.Choice.{Choice}
-use Rattle.choice.specs.declared.Choice.TheVariants.{Nobody, Job}
 use Rattle.choice.specs.declared.State.{State}
 use Rattle.choice.specs.Choosing.{ready, chosen, deadline_of, left_of}
 use Rattle.slacks.specs.Slack.{slack_time, zero_or_less, slack_energy, is_below}
@@ -159,7 +158,7 @@ module _ (d : Day) (good : GoodDay d) (even : EvenDay d) where
         }
 
     -- busy with the chosen job, which has the smallest deadline of those that are ready
-    module _ (k : ℕ) (w : chosen d s ≡ Job k) (costs : 1 ≤ at_hand d s) where
+    module _ (k : ℕ) (w : chosen d s ≡ Some k) (costs : 1 ≤ at_hand d s) where
       none_before : (end : ℕ) → end < deadline_of d k → NoneReady d s end
       none_before end h i l m =
           ⊎_elim
@@ -200,7 +199,7 @@ module _ (d : Day) (good : GoodDay d) (even : EvenDay d) where
           (energy_left d s past_done (at_most_wanted d n) (deadline_of d k) e even.costs_one none_before end h))
 
     -- rules 2 to 6, for the chosen job
-    by_rules : (k : ℕ) → chosen d s ≡ Job k → Did (numbers_of d) n
+    by_rules : (k : ℕ) → chosen d s ≡ Some k → Did (numbers_of d) n
     unfolding decided
     by_rules k w =
         let rule : decided d s ≡ rule_for d s k = ap (rule_on d s) w in
@@ -239,9 +238,9 @@ module _ (d : Day) (good : GoodDay d) (even : EvenDay d) where
     unfolding decided
     did = go (chosen d s) refl
       where
-        go : (c : Choice) → chosen d s ≡ c → Did (numbers_of d) n
-        go Nobody w = none (rests 1 (ap (rule_on d s) w)) (λ end. later end (λ k h l. (nobody_ready d s).0 w k h))
-        go (Job k) w = by_rules k w
+        go : (c : Option ℕ) → chosen d s ≡ c → Did (numbers_of d) n
+        go None w = none (rests 1 (ap (rule_on d s) w)) (λ end. later end (λ k h l. (nobody_ready d s).0 w k h))
+        go (Some k) w = by_rules k w
 
   -- ---- demand, harvest and the work at first
 

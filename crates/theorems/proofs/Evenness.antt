@@ -4,6 +4,7 @@ use mathlib.Core.Path.{◌≡◌, refl}
 use mathlib.Core.List.{List, [], ◌∷◌}
 use native.Mathlib.Omega.{arith}
 use lib.ListN.{length}
+use Rattle.std.specs.Prelude.{Result, Ok}
 use Rattle.sheet.specs.HandedIn.{on_sheet, day_in}
 use Rattle.sheet.specs.Lists.{joined, filled}
 use Rattle.sheet.specs.Paper.{in_order}
@@ -22,6 +23,7 @@ use Rattle.slot_run.specs.Run.{first_state, state_at, plan_of}
 use Rattle.planner.specs.Plan.{verdict_of, plan_for, plan_left}
 use Rattle.planner.specs.Promise.{Plans}
 use Rattle.planner.specs.declared.Planned.{Planned}
+use Rattle.planner.specs.declared.PlannerRefusal.{PlannerRefusal}
 use Rattle.planner.specs.declared.Planned.TheVariants.{Met, Undecided}
 use Rattle.theorems.specs.Even.{EvenDay, Decided}
 use Rattle.theorems.proofs.Days.{sheet_1, sheet_5, before}
@@ -53,7 +55,7 @@ fits_1 : length (before 4) ≡ slots_in sheet_1
 unfolding joined record_bytes trailer_bytes sheet_bytes
 fits_1 = refl
 
-planned_1 : Plans (on_sheet sheet_1) (before 4) Met (255 ∷ 1 ∷ 0 ∷ 255 ∷ [])
+planned_1 : Plans (on_sheet sheet_1) (before 4) (Ok Met) (255 ∷ 1 ∷ 0 ∷ 255 ∷ [])
 unfolding joined filled in_order in_turn total some counted_as harvest_of counts_fault window_fault work_fault record_bytes trailer_bytes sheet_bytes table_in harvest_in mark_fault layout_fault sheet_faults sheet_says demand_of overloaded is_release is_deadline found_at latest_start smallest_end ready earliest chosen unfinished least pending slack_time coming slack_energy rule_for decided next_state first_state state_at plan_of verdict_of plan_for plan_left
 planned_1 = record { answer = refl; buffer = refl }
 
@@ -61,11 +63,11 @@ planned_1 = record { answer = refl; buffer = refl }
 pub day_1_meets_the_hypotheses : WellFormed sheet_1
     × EvenDay (day_in (on_sheet sheet_1))
     × (length (before 4) ≡ slots_in sheet_1)
-    × Plans (on_sheet sheet_1) (before 4) Met (255 ∷ 1 ∷ 0 ∷ 255 ∷ [])
+    × Plans (on_sheet sheet_1) (before 4) (Ok Met) (255 ∷ 1 ∷ 0 ∷ 255 ∷ [])
 day_1_meets_the_hypotheses = (well_formed_1, even_1, fits_1, planned_1)
 
-pub day_1_is_decided : Decided (on_sheet sheet_1) (before 4) Met (255 ∷ 1 ∷ 0 ∷ 255 ∷ [])
-day_1_is_decided = even_days_are_decided sheet_1 (before 4) well_formed_1 even_1 fits_1 Met _ planned_1
+pub day_1_is_decided : Decided (on_sheet sheet_1) (before 4) (Ok Met) (255 ∷ 1 ∷ 0 ∷ 255 ∷ [])
+day_1_is_decided = even_days_are_decided sheet_1 (before 4) well_formed_1 even_1 fits_1 (Ok Met) _ planned_1
 
 -- ---- day 5
 
@@ -77,11 +79,11 @@ fits_5 : length (before 9) ≡ slots_in sheet_5
 unfolding joined record_bytes trailer_bytes sheet_bytes
 fits_5 = refl
 
-undecided_5 : Plans (on_sheet sheet_5) (before 9) (Undecided 1) (0 ∷ 1 ∷ 1 ∷ 1 ∷ 255 ∷ 0 ∷ 0 ∷ 255 ∷ 255 ∷ [])
+undecided_5 : Plans (on_sheet sheet_5) (before 9) (Ok (Undecided 1)) (0 ∷ 1 ∷ 1 ∷ 1 ∷ 255 ∷ 0 ∷ 0 ∷ 255 ∷ 255 ∷ [])
 unfolding joined filled in_order in_turn total some counted_as harvest_of counts_fault window_fault work_fault record_bytes trailer_bytes sheet_bytes table_in harvest_in mark_fault layout_fault sheet_faults sheet_says demand_of overloaded is_release is_deadline found_at latest_start smallest_end ready earliest chosen unfinished least pending slack_time coming slack_energy rule_for decided next_state first_state state_at plan_of verdict_of plan_for plan_left
 undecided_5 = record { answer = refl; buffer = refl }
 
 -- without evenness the theorem fails
 pub evenness_is_needed :
-    ((s plan : List ℕ) → WellFormed s → length plan ≡ slots_in s → (r : Planned) (after : List ℕ) → Plans (on_sheet s) plan r after → Decided (on_sheet s) plan r after) → ⊥
+    ((s plan : List ℕ) → WellFormed s → length plan ≡ slots_in s → (r : Result Planned PlannerRefusal) (after : List ℕ) → Plans (on_sheet s) plan r after → Decided (on_sheet s) plan r after) → ⊥
 evenness_is_needed without = undecided_is_not_decided _ _ _ _ (without sheet_5 (before 9) well_formed_5 fits_5 _ _ undecided_5)

@@ -17,7 +17,6 @@ use Rattle.sheet.specs.Sheet.{u16, u16_at, record_bytes, record_length, trailer_
 use Rattle.sheet.specs.Table.{job_of, day_of}
 use Rattle.sheet.specs.WellFormed.{GoodJob, GoodDay, WellFormed, SameTable, Bytes}
 use Rattle.sheet.specs.declared.Job.{Job}
-use Rattle.sheet.specs.declared.Outcome.TheVariants.{Accepted}
 use Rattle.sheet.specs.declared.Table.{Table}
 use Rattle.sheet.proofs.HandedIn.{check_leaves}
 use Rattle.sheet.proofs.Lists.{joined_same, stretch_joined}
@@ -26,11 +25,11 @@ use Rattle.sheet.proofs.Parts.{records_of, records_length, sheet_length_lem}
 use Rattle.sheet.proofs.Refusals.{outcome_one, says_gives}
 use Rattle.sheet.proofs.Stated.{job_in_table, sheet_leaves}
 use Rattle.reader.specs.Promise.{harvest_read, Reads}
-use Rattle.reader.specs.declared.Reading.{Reading}
+use Rattle.reader.specs.declared.reading.Reading.{Reading}
 use Rattle.reader.proofs.Yielding.{table_given, harvest_given}
 use Rattle.writer.specs.Promise.{no_room, length_for, write_says, buffer_written, written_says, Writes}
-use Rattle.writer.specs.declared.Written.{Written}
-use Rattle.writer.specs.declared.Written.TheVariants.{Length}
+use Rattle.writer.specs.declared.WriteRefusal.{WriteRefusal}
+use Rattle.std.specs.Prelude.{Result, Ok}
 use Rattle.writer.proofs.Theorems.{one_result}
 
 -- ---- numbers there and back
@@ -289,7 +288,7 @@ module _ (s : List ℕ) (bytes : Bytes s) (good : WellFormed s) where
       ∙ take-append-drop (record_length * n) s
 
   -- given room, the writer writes it
-  writes_again : (out : List ℕ) → length s ≤ length out → Writes (on_table (table_in s) (harvest_in s)) out (Length (length s)) (s ++ drop (length s) out)
+  writes_again : (out : List ℕ) → length s ≤ length out → Writes (on_table (table_in s) (harvest_in s)) out (Ok (length s)) (s ++ drop (length s) out)
   unfolding write_says buffer_written table_in
   writes_again out room =
       let leave = (check_leaves (on_table (table_in s) (harvest_in s))).1 good.good_day in
@@ -301,7 +300,7 @@ module _ (s : List ℕ) (bytes : Bytes s) (good : WellFormed s) where
 -- ---- the round trips
 
 -- what a writer that answered a length has done
-wrote : (t : Table) (harvest out after : List ℕ) (w : Written) (n : ℕ) → Writes (on_table t harvest) out w after → w ≡ Length n
+wrote : (t : Table) (harvest out after : List ℕ) (w : Result ℕ WriteRefusal) (n : ℕ) → Writes (on_table t harvest) out w after → w ≡ Ok n
     → GoodDay (day_of t harvest) × (take n after ≡ sheet_bytes t harvest)
 unfolding write_says buffer_written
 wrote t harvest out after w n written e =
@@ -319,24 +318,24 @@ wrote t harvest out after w n written e =
 
 -- "Reading what was written from an accepted table gives that table and harvest": where the writer answers a length, the reader accepts so many bytes
 -- of its buffer, and the table and the harvest that it hands back are those that were written
-pub written_reads_back : (t : Table) (harvest out after : List ℕ) (w : Written) (n : ℕ) → t.capacity < 65536 → Writes (on_table t harvest) out w after → w ≡ Length n
+pub written_reads_back : (t : Table) (harvest out after : List ℕ) (w : Result ℕ WriteRefusal) (n : ℕ) → t.capacity < 65536 → Writes (on_table t harvest) out w after → w ≡ Ok n
     → (r : Reading) (handed : List ℕ) → Reads (take n after) r → handed ≡ harvest_read (take n after)
-    → (r.outcome ≡ Accepted) × SameTable r.table t × (handed ≡ harvest)
+    → (r.outcome ≡ Ok tt) × SameTable r.table t × (handed ≡ harvest)
 written_reads_back t harvest out after w n fits written e r handed read is =
     let did = wrote t harvest out after w n written e in
     let good = did.0 in
     let front = did.1 in
     let says : sheet_says (take n after) ≡ gives tt = ap sheet_says front ∙ says_written t harvest good fits in (
-      outcome_one r.outcome Accepted (read.answer ∙ says),
+      outcome_one r.outcome (Ok tt) (read.answer ∙ says),
       subst (λ (u : Table). SameTable u t) (sym (read.table ∙ table_given (take n after) says ∙ ap table_in front)) (same_table t harvest good fits),
       is ∙ harvest_given (take n after) says ∙ ap harvest_in front ∙ harvest_back_is t harvest good fits,
     )
 
 -- "writing what was read from an accepted sheet, given room, gives its bytes": the writer, handed the table and the harvest that the reader handed back,
 -- answers the sheet's length, and the sheet stands at the front of its buffer, with the bytes behind it as they were
-pub read_writes_back : (s : List ℕ) → Bytes s → (r : Reading) (handed : List ℕ) → Reads s r → r.outcome ≡ Accepted → handed ≡ harvest_read s
-    → (out after : List ℕ) (w : Written) → length s ≤ length out → Writes (on_table r.table handed) out w after
-    → (w ≡ Length (length s)) × (after ≡ s ++ drop (length s) out)
+pub read_writes_back : (s : List ℕ) → Bytes s → (r : Reading) (handed : List ℕ) → Reads s r → r.outcome ≡ Ok tt → handed ≡ harvest_read s
+    → (out after : List ℕ) (w : Result ℕ WriteRefusal) → length s ≤ length out → Writes (on_table r.table handed) out w after
+    → (w ≡ Ok (length s)) × (after ≡ s ++ drop (length s) out)
 read_writes_back s bytes r handed read e is out after w room written =
     let says : sheet_says s ≡ gives tt = says_gives r.outcome (sheet_says s) e read.answer in
     let table_is : r.table ≡ table_in s = read.table ∙ table_given s says in
