@@ -60,7 +60,7 @@ pub enum Decision {
 pub fn at_hand(level: u16, byte: u8) -> u32
     ensures { result ≡ level + counted_as byte }
 {
-    sheet::wide(level) + sheet::wide(sheet::counted(byte))
+    u32::from(level) + u32::from(sheet::counted(byte))
 }
 
 // Rule 2 or rule 3 applies, so that nothing hangs on the slacks.

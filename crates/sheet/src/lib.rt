@@ -82,13 +82,6 @@ pub fn wide(number: u16) -> u32
     u32::from(number)
 }
 
-// An energy, as wide.
-pub fn widened(energy: u8) -> u32
-    ensures { (result ≡ energy) × (result ≤ 255) }
-{
-    u32::from(energy)
-}
-
 // The lesser of two numbers, the first of which fits a level: a level is cut at capacity.
 pub fn cut(capacity: u16, level: u32) -> u16
     ensures { result ≡ min capacity level }

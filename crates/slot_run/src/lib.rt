@@ -104,16 +104,16 @@ pub fn step(t: Table, harvest: &[u8], s: State) -> StepResult
 
 // The whole run of a day: its plan, a byte a slot, and the job that is left unfinished at the smallest
 // deadline, ties the lowest number. Only for a plan of slots bytes; `planner` calls it so, and nobody else.
-pub fn whole_run(day: SummedDay, plan: &mut [u8]) -> Option<usize>
-    requires { length plan.old ≡ day.day.table.now.slots }
-    ensures unfinished { result ≡ unfinished (the_day day.entry.day) (state_at (the_day day.entry.day) day.entry.day.table.now.slots) }
-    ensures plan { plan.new ≡ plan_of (the_day day.entry.day) }
+pub fn whole_run(summed: SummedDay, plan: &mut [u8]) -> Option<usize>
+    requires { length plan.old ≡ summed.day.table.now.slots }
+    ensures unfinished { result ≡ unfinished (the_day summed.entry.day) (state_at (the_day summed.entry.day) summed.entry.day.table.now.slots) }
+    ensures plan { plan.new ≡ plan_of (the_day summed.entry.day) }
 {
-    let jobs = columns::by_columns(day.day.table);
-    let mut s = first_state(day.day);
+    let jobs = columns::by_columns(summed.day.table);
+    let mut s = first_state(summed.day);
     for n in 0..plan.len() {
-        let decision = slot::take_slot(day, &jobs, n, &mut s);
+        let decision = slot::take_slot(summed, &jobs, n, &mut s);
         plan[n] = slot::plan_byte(decision);
     }
-    earliest::find_unfinished(day.day.table.count, &jobs, &s.left)
+    earliest::find_unfinished(summed.day.table.count, &jobs, &s.left)
 }
