@@ -5,11 +5,11 @@ use mathlib.Core.Bool.{Bool, cond, ◌&&◌}
 use native.Mathlib.Numerals.{add-one}
 use lib.Dec.{ltb, leb, leb-suc-suc}
 use Rattle.sheet.specs.Sums.{some, harvest_of}
-use Rattle.sheet.specs.Table.{job_of, cost_of, Day}
+use Rattle.sheet.specs.Table.{Day}
 use Rattle.sheet.proofs.Sums.{some_same}
 use Rattle.choice.specs.declared.State.{State}
 use Rattle.choice.specs.Choosing.{deadline_of, left_of}
-use Rattle.slacks.specs.Slack.{exactly, least, zero_or_less, is_below, wants, is_pending, pending, slack_time_at, slack_time, comes_before, is_coming, coming, slack_energy_at, slack_energy}
+use Rattle.slacks.specs.Slack.{exactly, least, zero_or_less, is_below, wants, is_pending, pending, slack_time_at, slack_time, comes_before, coming, slack_energy_at, slack_energy}
 use Rattle.slacks.proofs.Least.{least_below, zero_or_less_lem, below_one, below_two}
 
 below_suc : (a b : ℕ) → ltb a (b + 1) ≡ leb a b
@@ -51,15 +51,6 @@ pub no_slack_is : (d : Day) (s : State) → some (lacks_slack d s) d.table.count
 no_slack_is d s = sym (some_same (no_slack_by d s) (lacks_slack d s) d.table.count (λ k h. lacks_slack_lem d s k)) ∙ no_slack_by_lem d s
 
 -- ---- slack energy
-
--- what job i counts for in the work coming up to `end`
-abbrev pub coming_part : Day → State → ℕ → ℕ → ℕ
-coming_part d s end i = cond (is_coming d s end i) (cost_of (job_of d.table i)) 0
-
--- the same, with the job's numbers as the code reads them
-pub coming_read : (d : Day) (s : State) (end i release deadline cost part : ℕ) → release ≡ (job_of d.table i).release → deadline ≡ deadline_of d i
-    → cost ≡ cost_of (job_of d.table i) → part ≡ cond (ltb s.slot release && leb deadline end) cost 0 → part ≡ coming_part d s end i
-coming_read d s end i release deadline cost part p q r e = e ∙ rw (p, q, r)
 
 -- job k comes with a deadline below the chosen job's, and what is at hand up to there does not cover the coming work and the chosen job's energy
 abbrev pub needs_charge : Day → State → ℕ → ℕ → ℕ → Bool

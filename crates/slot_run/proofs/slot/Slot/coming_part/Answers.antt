@@ -1,11 +1,7 @@
--- The job's numbers are what its columns say.
-use mathlib.Core.Path.{◌∙◌}
-use Rattle.slacks.proofs.SlackTests.{coming_read}
-use Rattle.slot_run.proofs.Slots.{reads}
+-- Energies are bytes.
+use Rattle.std.proofs.Common.{◌+◌, ◌≤◌, get_or, arith}
+use Rattle.slot_run.proofs.Slots.{on_its_day}
 use Rattle.slot_run.proofs.slot.Slot.coming_part.Goals as goal
 
-pub returns-clause-is : goal.returns-clause-is
-returns-clause-is c =
-    λ d w.
-    let job = reads d c.args.self.now w c.args.i c.requires in
-    coming_read d c.args.self.now.state.now c.args.end c.args.i _ _ _ _ job.release job.deadline (c.cost-cost.ensures.0 ∙ job.cost) c.coming_part.ensures.0
+pub overflow_cast-self : goal.overflow_cast-self
+overflow_cast-self c = let byte : get_or c.args.self.now.jobs.now (192 + c.args.i) 0 ≤ 255 = on_its_day c.args.self.now (λ d w. w.columns.small c.args.i) in omega arith

@@ -8,6 +8,11 @@ use Rattle.slacks.proofs.SlackTests.{needs_charge_lem}
 use Rattle.slot_run.proofs.Slots.{on_its_day, reads, harvest_told}
 use Rattle.slot_run.proofs.slot.Slot.lacks_charge.Goals as goal
 
+pub bounds-self-end : goal.bounds-self-end
+bounds-self-end c =
+    on_its_day c.args.self.now
+    (λ d w. let job = reads d c.args.self.now w c.args.k c.requires.1 in omega (arith, job.deadline, job.job.in_day, w.summed.good.few_slots))
+
 pub overflow_sub-self : goal.overflow_sub-self
 overflow_sub-self c =
     on_its_day c.args.self.now (λ d w. let told = harvest_told d c.args.self.now w _ c.requires.1 _ (sym c.comes_before.ensures ∙ c.if-comes_before.true) in omega arith)
