@@ -2,10 +2,10 @@
 #![tactic(auto)]
 
 ghost use Rattle.std.specs.Prelude.{◌≡◌, List, cond, ℕ, ◌<◌, ◌≤◌};
-ghost use Rattle.sheet.specs.Checked.{the_day};
 ghost use Rattle.sheet.specs.HandedIn.{on_table};
 ghost use Rattle.sheet.specs.Table.{most_jobs, day_of};
 ghost use Rattle.columns.specs.Columns.{ColumnsOf};
+ghost use Rattle.totals.specs.Totals.{Summed};
 ghost use Rattle.interval.specs.declared.Kind.TheVariants.{Time, Energy};
 ghost use Rattle.demand.specs.Search.{found_at, latest_start, first_overload, Searches};
 ghost use Rattle.demand.specs.Steps.{Totalled, DueBy, DemandsOf, Finds, NextDeadline};
@@ -13,7 +13,6 @@ ghost use Rattle.demand.specs.Steps.{Totalled, DueBy, DemandsOf, Finds, NextDead
 pub use interval::Kind;
 use sheet::{CheckedDay, Refusal, Table};
 use std::fmt;
-use totals::SummedDay;
 
 // An overloaded interval, the slots from `from` up to, not including, `to`: what its jobs demand in
 // that kind is above what it can supply.
@@ -189,16 +188,17 @@ impl Due<'_> {
 }
 
 // The overloaded interval of a day with the smallest end, then the latest start, time before energy: the
-// deadlines upwards.
-pub fn first_overload(summed: SummedDay) -> Option<Overload>
-    ensures { result ≡ first_overload (the_day summed.entry.day) }
+// deadlines upwards. For whoever has checked the table with a harvest and has the running totals of that
+// harvest: `search` here, and the planner.
+pub fn first_overload(t: &Table, totals: &[u32; totals::ENTRIES]) -> Option<Overload>
+    requires { (harvest : List ℕ) × Summed (day_of t.now harvest) totals.now }
+    ensures { (harvest : List ℕ) → Summed (day_of t.now harvest) totals.now → result ≡ first_overload (day_of t.now harvest) }
 {
-    let table = summed.day.table;
-    let columns = columns::by_columns(table);
+    let columns = columns::by_columns(t);
     let day = Accepted {
-        table,
+        table: t,
         columns: &columns,
-        totals: summed.totals,
+        totals,
     };
     let mut shares = Shares {
         time: [0; sheet::MOST_JOBS],
@@ -221,12 +221,8 @@ pub fn search(t: Table, harvest: &[u8]) -> Result<Option<Overload>, Refusal>
     ensures { Searches (on_table t harvest.now) result }
 {
     let day = CheckedDay::new(&t, harvest)?;
-    let totals = totals::running(harvest);
-    let summed = SummedDay {
-        day,
-        totals: &totals,
-    };
-    Ok(first_overload(summed))
+    let totals = totals::running(day.harvest);
+    Ok(first_overload(day.table, &totals))
 }
 
 impl fmt::Display for Overload {

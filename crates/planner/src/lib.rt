@@ -69,13 +69,13 @@ fn plan_day(
         return Err(PlannerRefusal::WrongPlan);
     }
     let totals = totals::running(day.harvest);
+    if let Some(o) = demand::first_overload(day.table, &totals) {
+        return Ok(Planned::Overloaded(o));
+    }
     let summed = SummedDay {
         day,
         totals: &totals,
     };
-    if let Some(o) = demand::first_overload(summed) {
-        return Ok(Planned::Overloaded(o));
-    }
     match slot_run::whole_run(summed, plan) {
         None => Ok(Planned::Met),
         Some(k) => Ok(Planned::Undecided(k)),

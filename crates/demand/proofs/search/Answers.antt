@@ -16,12 +16,16 @@ returns-in_err-day c =
     let p = err_from_is_err_and c.from_residual.result c.from_residual.ensures.1 in
     rw (p.1, p.2) (record { answer = sym (hands_on (on_table _ _) _ _ c.in_err-day.ensures) })
 
+pub first_overload-requires : goal.first_overload-requires
+first_overload-requires c = (_, record { good = c.in_ok-day.day.good; totals_are = c.running-totals.ensures })
+
 pub returns : goal.returns
 unfolding search_of
 returns c =
     let day = c.in_ok-day.ensures in
+    let found = c.first_overload.ensures c.in_ok-day.day.harvest.now (record { good = c.in_ok-day.day.good; totals_are = c.running-totals.ensures }) in
     record {
       answer =
-          ap (λ (x : Option Overload). gives (found_says x)) (c.first_overload.ensures ∙ ap (λ (d : Day). first_overload d) day.1)
+          ap (λ (x : Option Overload). gives (found_says x)) (found ∙ ap (λ (d : Day). first_overload d) day.1)
           ∙ sym (past_check (on_table _ _) _ day.0);
     }

@@ -2,7 +2,9 @@
 use mathlib.Core.Path.{subst}
 use Rattle.std.proofs.lemmas.Result.{err_from_is_err_and}
 use Rattle.sheet.specs.Checked.{Checks, the_day}
+use Rattle.totals.specs.Totals.{Summed}
 use Rattle.planner.proofs.Promised.{plan_refused, plans_wrong, plans_overloaded, plans_met, plans_undecided}
+use Rattle.planner.proofs.plan_day.Goals.{After-running-totals}
 use Rattle.planner.proofs.plan_day.Goals as goal
 
 pub returns-in_err-day : goal.returns-in_err-day
@@ -15,19 +17,26 @@ returns-then-plan-day c h checks =
     let day = subst (Checks h) c.in_ok-day.was checks in
     plans_wrong h (the_day c.in_ok-day.day) _ day.0 day.1 c.if-plan-day.true
 
+-- the totals that were made are those of the day
+summed : (c : After-running-totals) → Summed (the_day c.in_ok-day.day) c.running-totals.result
+summed c = record { good = c.in_ok-day.day.good; totals_are = c.running-totals.ensures }
+
+pub first_overload-requires : goal.first_overload-requires
+first_overload-requires c = (_, summed (goal.at.first_overload-requires c).After-running-totals)
+
 pub returns-in-Some : goal.returns-in-Some
 returns-in-Some c h checks =
     let day = subst (Checks h) c.in_ok-day.was checks in
-    plans_overloaded h (the_day c.in_ok-day.day) _ day.0 day.1 c.if-plan-day.false _ c.first_overload.ensures _ c.in-Some.is
+    plans_overloaded h (the_day c.in_ok-day.day) _ day.0 day.1 c.if-plan-day.false _ (c.first_overload.ensures _ (summed (goal.at.returns-in-Some c).After-running-totals)) _ c.in-Some.is
 
 pub returns-in-None : goal.returns-in-None
 returns-in-None c h checks =
     let day = subst (Checks h) c.in_ok-day.was checks in
     let ran = c.whole_run.ensures in
-    plans_met h (the_day c.in_ok-day.day) _ day.0 day.1 c.if-plan-day.false _ c.first_overload.ensures c.in_default.is _ _ ran.unfinished ran.plan c.in-None.is
+    plans_met h (the_day c.in_ok-day.day) _ day.0 day.1 c.if-plan-day.false _ (c.first_overload.ensures _ (summed (goal.at.returns-in-None c).After-running-totals)) c.in_default.is _ _ ran.unfinished ran.plan c.in-None.is
 
 pub returns-in-Some-whole_run : goal.returns-in-Some-whole_run
 returns-in-Some-whole_run c h checks =
     let day = subst (Checks h) c.in_ok-day.was checks in
     let ran = c.whole_run.ensures in
-    plans_undecided h (the_day c.in_ok-day.day) _ day.0 day.1 c.if-plan-day.false _ c.first_overload.ensures c.in_default.is _ _ ran.unfinished ran.plan _ c.in-Some-whole_run.is
+    plans_undecided h (the_day c.in_ok-day.day) _ day.0 day.1 c.if-plan-day.false _ (c.first_overload.ensures _ (summed (goal.at.returns-in-Some-whole_run c).After-running-totals)) c.in_default.is _ _ ran.unfinished ran.plan _ c.in-Some-whole_run.is
