@@ -7,20 +7,16 @@ use native.Mathlib.Decide.{ℕ_discrete}
 use native.Mathlib.Nat.{not-suc-le-zero}
 use native.Mathlib.Numerals.{add-one}
 use native.Mathlib.Omega.{arith}
-use lib.Dec.{leb}
 use lib.ListN.{length, get_or}
-use borrow.Author.Tests.{lt-ltb, le-ltb, leb-true}
-use Rattle.sheet.proofs.Words.{and_left, and_true}
-use Rattle.evidence.specs.Decimal.{largest, zero_digit, nine_digit, is_digit, are_digits, written, number_in}
-use Rattle.evidence.specs.declared.argument.Number.TheVariants.{Is, Nothing}
-
-pub digit_least : (byte : ℕ) (b : Bool) → b ≡ is_digit byte → b ≡ true → zero_digit ≤ byte
-digit_least byte b is told = leb-true _ _ (and_left (leb zero_digit byte) (leb byte nine_digit) (sym is ∙ told))
+use borrow.Author.Tests.{lt-ltb, le-ltb}
+use Rattle.sheet.proofs.Words.{and_true}
+use Rattle.evidence.specs.Decimal.{largest, zero_digit, is_digit, are_digits, written, number_in}
+use Rattle.std.specs.Prelude.{Some, None}
 
 module _ (text : List ℕ) where
   -- ---- no number
 
-  pub no_text : length text ≡ 0 → Nothing ≡ number_in text
+  pub no_text : length text ≡ 0 → None ≡ number_in text
   unfolding number_in
   no_text e = let h : length text ≤ 0 = omega arith in rw (le-ltb 0 (length text) h)
 
@@ -37,21 +33,13 @@ module _ (text : List ℕ) where
       and_false true e = e
       and_false false e = refl
 
-  pub no_digit : (i : ℕ) (b : Bool) → i < length text → b ≡ is_digit (get_or text i 0) → b ≡ false → Nothing ≡ number_in text
+  pub no_digit : (i : ℕ) (b : Bool) → i < length text → b ≡ is_digit (get_or text i 0) → b ≡ false → None ≡ number_in text
   unfolding number_in
   no_digit i b h is told =
       let some : 0 < length text = omega arith in
       rw (lt-ltb 0 (length text) some, not_all i (length text) h (sym is ∙ told))
 
   -- ---- one digit more
-
-  pub digits_none : are_digits text 0 ≡ true
-  unfolding are_digits
-  digits_none = refl
-
-  pub written_none : 0 ≡ min largest (written text 0)
-  unfolding written
-  written_none = refl
 
   pub digits_more : (i : ℕ) (b : Bool) → are_digits text i ≡ true → b ≡ is_digit (get_or text i 0) → b ≡ true → are_digits text (i + 1) ≡ true
   unfolding are_digits
@@ -67,8 +55,8 @@ module _ (text : List ℕ) where
   -- ---- all digits
 
   pub all_digits : (n number : ℕ) → n ≡ length text → (length text ≡ 0 → ⊥) → are_digits text n ≡ true → number ≡ min largest (written text n)
-      → Is number ≡ number_in text
+      → Some number ≡ number_in text
   unfolding number_in
   all_digits n number e some all is =
       let h : 0 < length text = omega arith in
-      rw (lt-ltb 0 (length text) h, ← e, all) (ap Is is)
+      rw (lt-ltb 0 (length text) h, ← e, all) (ap Some is)

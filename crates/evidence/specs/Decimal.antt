@@ -1,7 +1,5 @@
 -- A number in decimal digits; one above 2^64 - 1 is taken as 2^64 - 1.
-use Rattle.std.specs.Prelude.{ℕ, zero, suc, min, ◌+◌, ◌-◌, ◌*◌, Bool, true, cond, ◌&&◌, List, ltb, leb, length, get_or}
-use Rattle.evidence.specs.declared.argument.Number.{Number}
-use Rattle.evidence.specs.declared.argument.Number.TheVariants.{Is, Nothing}
+use Rattle.std.specs.Prelude.{ℕ, zero, suc, min, ◌+◌, ◌-◌, ◌*◌, Bool, true, cond, ◌&&◌, List, ltb, leb, length, get_or, Option, Some, None}
 
 abbrev pub largest : ℕ
 largest = 18446744073709551615
@@ -26,5 +24,5 @@ unfoldable pub written : List ℕ → ℕ → ℕ
 written text zero = 0
 written text (suc n) = 10 * written text n + (get_or text n 0 - zero_digit)
 
-unfoldable pub number_in : List ℕ → Number
-number_in text = cond (ltb 0 (length text) && are_digits text (length text)) (Is (min largest (written text (length text)))) Nothing
+unfoldable pub number_in : List ℕ → Option ℕ
+number_in text = cond (ltb 0 (length text) && are_digits text (length text)) (Some (min largest (written text (length text)))) None

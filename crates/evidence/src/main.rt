@@ -10,8 +10,6 @@
 mod argument;
 mod file;
 
-use argument::Number;
-use file::Content;
 use std::env::Env;
 use std::fs::Files;
 
@@ -40,40 +38,44 @@ fn print_usage() {
 // Judges a plan.
 fn judge_plan<R: Env + Files>(rt: &R) {
     let mut sheet = [0u8; file::ROOM];
-    let Content::Bytes(length) = file::read(rt, SHEET, &mut sheet) else {
+    let Some(sheet) = file::read(rt, SHEET, &mut sheet) else {
         return;
     };
     let mut plan = [0u8; file::ROOM];
-    let Content::Bytes(slots) = file::read(rt, PLAN, &mut plan) else {
+    let Some(plan) = file::read(rt, PLAN, &mut plan) else {
         return;
     };
-    judge_words::print_plan(&sheet[..length], &plan[..slots]);
+    judge_words::print_plan(sheet, plan);
 }
 
-// Judges a claim of that kind, start and end.
-fn judge_claim<R: Env + Files>(rt: &R, kind: u64, start: u64, end: u64) {
+// What a claim says: a kind, and the slots from `start` up to, not including, `end`.
+#[derive(Clone, Copy)]
+struct Claim {
+    kind: u64,
+    start: u64,
+    end: u64,
+}
+
+// The claim in the arguments, where they are a kind and two numbers.
+fn claimed(rt: &impl Env) -> Option<Claim> {
+    Some(Claim {
+        kind: argument::kind_at(rt, KIND)?,
+        start: argument::number_at(rt, START)?,
+        end: argument::number_at(rt, END)?,
+    })
+}
+
+// Judges a claim where the arguments make one.
+fn judge_claim<R: Env + Files>(rt: &R) {
+    let Some(claim) = claimed(rt) else {
+        print_usage();
+        return;
+    };
     let mut sheet = [0u8; file::ROOM];
-    let Content::Bytes(length) = file::read(rt, SHEET, &mut sheet) else {
+    let Some(sheet) = file::read(rt, SHEET, &mut sheet) else {
         return;
     };
-    judge_words::print_claim(&sheet[..length], kind, start, end);
-}
-
-// Judges a claim where its arguments are a kind and two numbers.
-fn judge_claimed<R: Env + Files>(rt: &R) {
-    let Number::Is(kind) = argument::kind_at(rt, KIND) else {
-        print_usage();
-        return;
-    };
-    let Number::Is(start) = argument::number_at(rt, START) else {
-        print_usage();
-        return;
-    };
-    let Number::Is(end) = argument::number_at(rt, END) else {
-        print_usage();
-        return;
-    };
-    judge_claim(rt, kind, start, end);
+    judge_words::print_claim(sheet, claim.kind, claim.start, claim.end);
 }
 
 fn main(rt: HostRuntime) {
@@ -81,7 +83,7 @@ fn main(rt: HostRuntime) {
     if count == WITH_PLAN && argument::is_word(&rt, EVIDENCE, b"plan") {
         judge_plan(&rt);
     } else if count == WITH_CLAIM && argument::is_word(&rt, EVIDENCE, b"claim") {
-        judge_claimed(&rt);
+        judge_claim(&rt);
     } else {
         print_usage();
     }

@@ -55,6 +55,12 @@ pub struct Sums {
     pub supply: u32,
 }
 
+impl fmt::Display for Sums {
+    fn fmt<W: fmt::Write>(&self, f: &mut fmt::Formatter<W>) -> fmt::Result {
+        write!(f, "demand {} supply {}", self.demand, self.supply)
+    }
+}
+
 // Why a claim is not accepted. It is accepted where the demand is above the supply.
 #[derive(Clone, Copy, Debug, PartialEq, Eq)]
 pub enum ClaimRefusal {

@@ -1,7 +1,7 @@
 // The judge's calls that a request asks for, and the line of each (docs/TRIALS.md).
 #![tactic(auto)]
 
-use judge::{JudgedClaim, JudgedPlan, PlanFault, Sums};
+use judge::{ClaimRefusal, PlanFault, PlanRefusal, Sums};
 use lines::{Line, Refused};
 use std::fmt;
 use std::fmt::Write;
@@ -29,61 +29,49 @@ impl fmt::Display for Fault {
 
 // The judge's answer to a plan.
 #[derive(Clone, Copy)]
-struct Judged(JudgedPlan);
+struct Judged(Result<(), PlanRefusal>);
 
 impl fmt::Display for Judged {
     fn fmt<W: fmt::Write>(&self, f: &mut fmt::Formatter<W>) -> fmt::Result {
         match self.0 {
-            JudgedPlan::Refused(why) => write!(f, "{}", Refused(why)),
-            JudgedPlan::Faulty(fault) => write!(f, "{}", Fault(fault)),
-            JudgedPlan::Accepted => f.write_str("accepted"),
+            Ok(()) => f.write_str("accepted"),
+            Err(PlanRefusal::HandedIn(why)) => write!(f, "{}", Refused(why)),
+            Err(PlanRefusal::Plan(fault)) => write!(f, "{}", Fault(fault)),
         }
     }
 }
 
 // `judge::plan_on_sheet`.
 fn plan_on_sheet(payload: &[u8], out: &mut Line<'_>) -> fmt::Result {
-    let bytes = requests::bytes_at(payload, 0);
-    let plan = requests::bytes_at(payload, requests::behind_bytes(payload, 0));
-    write!(out, "judge {}", Judged(judge::plan_on_sheet(bytes, plan)))
+    let plan = requests::behind(payload, requests::behind_bytes(payload, 0));
+    let answer = judge::plan_on_sheet(requests::bytes_at(payload, 0), requests::bytes_at(plan, 0));
+    write!(out, "judge {}", Judged(answer))
 }
 
 // `judge::plan_on_table`.
 fn plan_on_table(payload: &[u8], out: &mut Line<'_>) -> fmt::Result {
-    let t = requests::table_in(payload);
-    let harvest = requests::harvest_in(payload);
-    let plan = requests::bytes_at(payload, requests::behind_harvest(payload));
-    write!(
-        out,
-        "judge {}",
-        Judged(judge::plan_on_table(t, harvest, plan))
-    )
-}
-
-// What was weighed.
-#[derive(Clone, Copy)]
-struct Weighed(Sums);
-
-impl fmt::Display for Weighed {
-    fn fmt<W: fmt::Write>(&self, f: &mut fmt::Formatter<W>) -> fmt::Result {
-        let Sums { demand, supply } = self.0;
-        write!(f, "demand {demand} supply {supply}")
-    }
+    let plan = requests::behind(payload, requests::behind_harvest(payload));
+    let answer = judge::plan_on_table(
+        requests::table_in(payload),
+        requests::harvest_in(payload),
+        requests::bytes_at(plan, 0),
+    );
+    write!(out, "judge {}", Judged(answer))
 }
 
 // The judge's answer to a claim: behind `accepted` and 18 stands what was weighed.
 #[derive(Clone, Copy)]
-struct Claimed(JudgedClaim);
+struct Claimed(Result<Sums, ClaimRefusal>);
 
 impl fmt::Display for Claimed {
     fn fmt<W: fmt::Write>(&self, f: &mut fmt::Formatter<W>) -> fmt::Result {
         match self.0 {
-            JudgedClaim::Refused(why) => write!(f, "{}", Refused(why)),
-            JudgedClaim::NoInterval => write!(f, "refused {}", judge::NO_INTERVAL),
-            JudgedClaim::NotOverloaded(sums) => {
-                write!(f, "refused {} {}", judge::NOT_OVERLOADED, Weighed(sums))
+            Ok(sums) => write!(f, "accepted {sums}"),
+            Err(ClaimRefusal::HandedIn(why)) => write!(f, "{}", Refused(why)),
+            Err(ClaimRefusal::NoInterval) => write!(f, "refused {}", judge::NO_INTERVAL),
+            Err(ClaimRefusal::NotOverloaded(sums)) => {
+                write!(f, "refused {} {sums}", judge::NOT_OVERLOADED)
             }
-            JudgedClaim::Accepted(sums) => write!(f, "accepted {}", Weighed(sums)),
         }
     }
 }

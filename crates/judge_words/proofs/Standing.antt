@@ -1,10 +1,11 @@
 -- What the judge's answers name stands in the plan, the table and the day: each is given only where it is stated.
-use Prim.Native.Nat.{ℕ, ◌<◌}
-use mathlib.Core.Path.{◌≡◌, sym, ◌∙◌, subst}
+use Prim.Native.Nat.{ℕ, ◌≤◌, ◌<◌}
+use mathlib.Core.Path.{◌≡◌, sym, ap, ◌∙◌, subst}
 use mathlib.Core.List.{List}
 use native.Mathlib.Decide.{ℕ_discrete}
 use native.Mathlib.Omega.{arith}
 use lib.ListN.{length}
+use Rattle.std.specs.Prelude.{Result, Ok, Err}
 use Rattle.sheet.specs.HandedIn.{on_sheet, day_in}
 use Rattle.sheet.specs.Sheet.{table_in}
 use Rattle.sheet.specs.Table.{Day}
@@ -19,12 +20,12 @@ use Rattle.plan_slots.specs.declared.PlanFault.TheVariants.{WrongLength, NoJob, 
 use Rattle.plan_slots.proofs.Judging.{byte_stands}
 use Rattle.judge.specs.Promise.{JudgesPlan, JudgesClaim}
 use Rattle.judge.specs.Stated.{RunsIn, plan_turn, PlanGivenFirst}
-use Rattle.judge.specs.declared.JudgedPlan.{JudgedPlan}
-use Rattle.judge.specs.declared.JudgedPlan.TheVariants as Plan
-use Rattle.judge.specs.declared.JudgedClaim.{JudgedClaim}
-use Rattle.judge.specs.declared.JudgedClaim.TheVariants as Claim
+use Rattle.judge.specs.declared.PlanRefusal.{PlanRefusal}
+use Rattle.judge.specs.declared.PlanRefusal.TheVariants as Plan
+use Rattle.judge.specs.declared.ClaimRefusal.{ClaimRefusal}
+use Rattle.judge.specs.declared.ClaimRefusal.TheVariants as Claim
 use Rattle.judge.specs.declared.Sums.{Sums}
-use Rattle.judge.proofs.ClaimWords.{is_interval}
+use Rattle.judge.proofs.ClaimWords.{kind_number_lem, is_interval}
 use Rattle.judge.proofs.Theorems.{plan_faulty_exactly, claim_accepted_exactly, claim_eighteen_exactly}
 use Rattle.judge_words.specs.Words.{GoodJobs, IsJobs, Stands}
 
@@ -67,29 +68,31 @@ good_jobs_of d good =
 table_is : (s : List ℕ) (reading : Reading) → Reads s reading → WellFormed s → table_in s ≡ reading.table
 table_is s reading read good = sym (read.table ∙ table_given s ((sheet_leaves s).1 good))
 
-module _ (s : List ℕ) (reading : Reading) (read : Reads s reading) (plan : List ℕ) (r : JudgedPlan) (f : PlanFault) (judged : JudgesPlan (on_sheet s) plan r)
-    (told : r ≡ Plan.Faulty f) where
-  pub fault_jobs : GoodJobs reading.table
-  fault_jobs =
-      let good = ((plan_faulty_exactly (on_sheet s) plan r judged f).0 told).0 in
-      subst GoodJobs (table_is s reading read good) (good_jobs_of (day_in (on_sheet s)) good.good_day)
-
-  pub fault_stands : Stands reading.table plan f
-  fault_stands =
-      let w = (plan_faulty_exactly (on_sheet s) plan r judged f).0 told in
-      subst (λ (t : Table). Stands t plan f) (table_is s reading read w.0) (given_stands (day_in (on_sheet s)) plan f w.1)
+module _ (s : List ℕ) (reading : Reading) (read : Reads s reading) (plan : List ℕ) (r : Result (Unit {0}) PlanRefusal) (judged : JudgesPlan (on_sheet s) plan r)
+    (why : PlanRefusal) (told : r ≡ Err why) (f : PlanFault) (faulty : why ≡ Plan.Plan f) where
+  pub named : GoodJobs reading.table × Stands reading.table plan f
+  named =
+      let w = (plan_faulty_exactly (on_sheet s) plan r judged f).0 (told ∙ ap Err faulty) in
+      let d = day_in (on_sheet s) in
+      subst (λ (t : Table). GoodJobs t × Stands t plan f) (table_is s reading read w.0) (good_jobs_of d w.0.good_day, given_stands d plan f w.1)
 
 -- ---- a claim
 
-module _ (s : List ℕ) (number from to : ℕ) (r : JudgedClaim) (judged : JudgesClaim (on_sheet s) number from to r) (sums : Sums) where
-  pub refused_ends : r ≡ Claim.NotOverloaded sums → 0 < to
-  refused_ends told =
-      let i = (is_interval (table_in s).slots number from to).0 ((claim_eighteen_exactly (on_sheet s) number from to r judged sums).0 told).1 in
+module _ (s : List ℕ) (number from to : ℕ) (r : Result Sums ClaimRefusal) (judged : JudgesClaim (on_sheet s) number from to r) (sums : Sums) where
+  pub refused_weighed : (why : ClaimRefusal) → r ≡ Err why → why ≡ Claim.NotOverloaded sums → (number ≤ 1) × (0 < to)
+  refused_weighed why told eighteen =
+      let w = (claim_eighteen_exactly (on_sheet s) number from to r judged sums).0 (told ∙ ap Err eighteen) in
+      let i = (is_interval (table_in s).slots number from to).0 w.1 in
       let order = i.in_order in
-      omega arith
+      (i.a_kind, omega arith)
 
-  pub accepted_ends : r ≡ Claim.Accepted sums → 0 < to
-  accepted_ends told = let order = ((claim_accepted_exactly (on_sheet s) number from to r judged sums).0 told).1.in_order in omega arith
+  pub accepted_weighed : r ≡ Ok sums → (number ≤ 1) × (0 < to)
+  accepted_weighed told =
+      let a = ((claim_accepted_exactly (on_sheet s) number from to r judged sums).0 told).1 in
+      let number_is = a.kind_is in
+      let most = kind_number_lem a.kind in
+      let order = a.in_order in
+      (omega arith, omega arith)
 
 -- ---- what stands, by the refusal
 

@@ -2,11 +2,11 @@
 // claim.
 #![tactic(auto)]
 
-ghost use Rattle.std.specs.Prelude.{◌≡◌, ◌<◌, length, get_or};
+ghost use Rattle.std.specs.Prelude.{◌≡◌, ◌≤◌, ◌<◌, length, get_or};
 ghost use Rattle.judge_words.specs.Words.{GoodJobs, IsJobs, Stands};
 
 use interval::Kind;
-use judge::{JudgedClaim, JudgedPlan, PlanFault, Sums};
+use judge::{ClaimRefusal, PlanFault, PlanRefusal, Sums};
 use print::Output;
 use sheet::{Job, Refusal, Table};
 use std::fmt;
@@ -28,31 +28,6 @@ impl fmt::Display for Range {
 
 // ---- a refused sheet
 
-// What is wrong with a sheet.
-#[derive(Clone, Copy)]
-struct Wrong(Refusal);
-
-impl fmt::Display for Wrong {
-    fn fmt<W: fmt::Write>(&self, f: &mut fmt::Formatter<W>) -> fmt::Result {
-        match self.0 {
-            Refusal::Short => f.write_str("the sheet is under 12 bytes"),
-            Refusal::Mark => f.write_str("the sheet does not end in 45 48 (hex)"),
-            Refusal::Counts => {
-                f.write_str("the sheet has more than 64 jobs, or slots 0 or above 1440")
-            }
-            Refusal::Layout => f.write_str(
-                "the sheet's back distances or its length do not fit its jobs and slots",
-            ),
-            Refusal::Window(_) => f.write_str(
-                "its release is not below its deadline, or its deadline is above slots",
-            ),
-            Refusal::Work(_) => f.write_str(
-                "it wants 0 slots or above 1440, its energy is 0, or its last byte is not zero",
-            ),
-        }
-    }
-}
-
 // The words for a refused sheet: 1 to 6, and the record that 5 and 6 name.
 #[derive(Clone, Copy)]
 struct Refused(Refusal);
@@ -64,7 +39,7 @@ impl fmt::Display for Refused {
         if let Refusal::Window(_) | Refusal::Work(_) = why {
             write!(f, " at record {}", sheet::place(why))?;
         }
-        write!(f, ": {}", Wrong(why))
+        write!(f, ": {why}")
     }
 }
 
@@ -186,12 +161,12 @@ fn print_fault(t: Table, plan: &[u8], fault: PlanFault) -> fmt::Result
 fn print_judged(bytes: &[u8], plan: &[u8]) -> fmt::Result {
     let reading = reader::read(bytes);
     match judge::plan_on_sheet(bytes, plan) {
-        JudgedPlan::Refused(why) => writeln!(Output, "{}", Refused(why)),
-        JudgedPlan::Faulty(fault) => print_fault(reading.table, plan, fault),
-        JudgedPlan::Accepted => writeln!(
+        Ok(()) => writeln!(
             Output,
             "accepted: every job gets its slots inside its window, and no busy slot lacks charge"
         ),
+        Err(PlanRefusal::HandedIn(why)) => writeln!(Output, "{}", Refused(why)),
+        Err(PlanRefusal::Plan(fault)) => print_fault(reading.table, plan, fault),
     }
 }
 
@@ -223,20 +198,14 @@ impl fmt::Display for Claimed {
 impl Claimed {
     // A claim that was weighed.
     fn weighed(kind: u64, start: u64, end: u64, sums: Sums) -> Claimed
-        requires { 0 < end }
+        requires { (kind ≤ 1) × (0 < end) }
     {
-        let kind = if kind == judge::TIME {
-            Kind::Time
-        } else {
-            Kind::Energy
-        };
-        let slots = Range {
-            from: start as usize,
-            to: end as usize,
-        };
         Claimed {
-            slots,
-            kind,
+            slots: Range {
+                from: start as usize,
+                to: end as usize,
+            },
+            kind: Kind::try_from(kind).unwrap(),
             demand: sums.demand,
         }
     }
@@ -245,25 +214,25 @@ impl Claimed {
 // Prints what the judge says of a claim.
 fn print_weighed(bytes: &[u8], kind: u64, start: u64, end: u64) -> fmt::Result {
     let reading = reader::read(bytes);
-    let answer = judge::claim_on_sheet(bytes, kind, start, end);
-    let number = judge::claim_number(answer);
-    match answer {
-        JudgedClaim::Refused(why) => writeln!(Output, "{}", Refused(why)),
-        JudgedClaim::NoInterval => writeln!(
+    match judge::claim_on_sheet(bytes, kind, start, end) {
+        Ok(sums) => writeln!(
             Output,
-            "refused {number}: the claim is no interval of the day: a kind is 0 (time) or 1 (energy), \
-            the start is below the end, and the end is at most {}",
-            reading.table.slots
-        ),
-        JudgedClaim::NotOverloaded(sums) => writeln!(
-            Output,
-            "refused {number}: {} is not above supply {}",
+            "accepted: {} is above supply {}",
             Claimed::weighed(kind, start, end, sums),
             sums.supply
         ),
-        JudgedClaim::Accepted(sums) => writeln!(
+        Err(ClaimRefusal::HandedIn(why)) => writeln!(Output, "{}", Refused(why)),
+        Err(ClaimRefusal::NoInterval) => writeln!(
             Output,
-            "accepted: {} is above supply {}",
+            "refused {}: the claim is no interval of the day: a kind is 0 (time) or 1 (energy), \
+            the start is below the end, and the end is at most {}",
+            judge::NO_INTERVAL,
+            reading.table.slots
+        ),
+        Err(ClaimRefusal::NotOverloaded(sums)) => writeln!(
+            Output,
+            "refused {}: {} is not above supply {}",
+            judge::NOT_OVERLOADED,
             Claimed::weighed(kind, start, end, sums),
             sums.supply
         ),

@@ -3,7 +3,7 @@
 
 ghost use Rattle.std.specs.Prelude.{◌≤◌, length};
 
-use sheet::{Job, Outcome, Refusal, Table};
+use sheet::{Job, Refusal, Table};
 use std::fmt;
 
 // A line: the first `end` bytes of the space. Where the space is full, what stands there is printed and
@@ -85,13 +85,13 @@ impl fmt::Display for Refused {
 
 // `accepted`, or REFUSAL.
 #[derive(Clone, Copy)]
-pub struct Checked(pub Outcome);
+pub struct Checked(pub Result<(), Refusal>);
 
 impl fmt::Display for Checked {
     fn fmt<W: fmt::Write>(&self, f: &mut fmt::Formatter<W>) -> fmt::Result {
         match self.0 {
-            Outcome::Accepted => f.write_str("accepted"),
-            Outcome::Refused(why) => write!(f, "{}", Refused(why)),
+            Ok(()) => f.write_str("accepted"),
+            Err(why) => write!(f, "{}", Refused(why)),
         }
     }
 }
@@ -99,19 +99,6 @@ impl fmt::Display for Checked {
 // A place of a table.
 #[derive(Clone, Copy)]
 struct Place(Job);
-
-impl Place {
-    // Whether it is all zeros.
-    fn is_zeros(&self) -> bool {
-        let Job {
-            release,
-            deadline,
-            wanted,
-            energy,
-        } = self.0;
-        release == 0 && deadline == 0 && wanted == 0 && energy == 0
-    }
-}
 
 impl fmt::Display for Place {
     fn fmt<W: fmt::Write>(&self, f: &mut fmt::Formatter<W>) -> fmt::Result {
@@ -132,7 +119,7 @@ impl fmt::Display for Places {
             "count {} slots {} capacity {} places",
             t.count, t.slots, t.capacity
         )?;
-        let Some(last) = t.jobs.iter().rposition(|j| !Place(*j).is_zeros()) else {
+        let Some(last) = t.jobs.iter().rposition(|j| *j != Job::default()) else {
             return f.write_str(" none");
         };
         for j in &t.jobs[..=last] {

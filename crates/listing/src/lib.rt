@@ -1,13 +1,10 @@
 // The listing of a day, as the program `day` prints it.
 #![tactic(auto)]
 
-ghost use Rattle.std.specs.Prelude.{◌≤◌};
-ghost use Rattle.sheet.specs.Table.{most_slots};
-
-use planner::Planned;
+use planner::{Planned, PlannerRefusal};
 use print::Output;
-use sheet::{Outcome, Table};
-use slot_run::{Decision, StepResult, Stepped};
+use sheet::CheckedDay;
+use slot_run::{Decision, StepResult};
 use std::fmt;
 use std::fmt::Write;
 
@@ -16,16 +13,14 @@ const MOST_SLOTS: usize = sheet::MOST_SLOTS as usize;
 
 // The planner's answer: the verdict, or the refusal's number.
 #[derive(Clone, Copy)]
-struct Verdict(Planned);
+struct Verdict(Result<Planned, PlannerRefusal>);
 
 impl fmt::Display for Verdict {
     fn fmt<W: fmt::Write>(&self, f: &mut fmt::Formatter<W>) -> fmt::Result {
         match self.0 {
-            Planned::Met => f.write_str("met"),
-            Planned::Undecided(k) => write!(f, "undecided job {k}"),
-            Planned::Overloaded(o) => write!(f, "{o}"),
-            Planned::Refused(why) => write!(f, "refused {}", sheet::number(why)),
-            Planned::WrongPlan => write!(f, "refused {}", planner::WRONG_PLAN),
+            Ok(planned) => write!(f, "{planned}"),
+            Err(PlannerRefusal::HandedIn(why)) => write!(f, "refused {}", sheet::number(why)),
+            Err(PlannerRefusal::WrongPlan) => write!(f, "refused {}", planner::WRONG_PLAN),
         }
     }
 }
@@ -45,7 +40,7 @@ impl fmt::Display for Deed {
 
 // Prints the line of a slot that was taken: what it does, and the level after it.
 fn print_slot(slot: u16, taken: StepResult) -> fmt::Result {
-    if let Stepped::Decided(decision) = taken.answer {
+    if let Ok(Some(decision)) = taken.answer {
         let level = taken.state.level;
         return writeln!(Output, "slot {slot} {} level {level}", Deed(decision));
     }
@@ -53,10 +48,11 @@ fn print_slot(slot: u16, taken: StepResult) -> fmt::Result {
 }
 
 // Prints a line for each slot, from the first state of the day on, step by step.
-fn print_slots(t: Table, harvest: &[u8]) -> fmt::Result {
-    let mut s = slot_run::begin(t, harvest).state;
+fn print_slots(day: CheckedDay) -> fmt::Result {
+    let t = *day.table;
+    let mut s = slot_run::begin(t, day.harvest).state;
     for slot in 0..t.slots {
-        let taken = slot_run::step(t, harvest, s);
+        let taken = slot_run::step(t, day.harvest, s);
         print_slot(slot, taken)?;
         s = taken.state;
     }
@@ -65,19 +61,18 @@ fn print_slots(t: Table, harvest: &[u8]) -> fmt::Result {
 
 // Prints the listing of a day that was read: the header; the slots, where no interval is overloaded;
 // the verdict.
-fn print_table(t: Table, harvest: &[u8]) -> fmt::Result
-    requires { t.slots ≤ most_slots }
-{
+fn print_table(day: CheckedDay) -> fmt::Result {
     let mut space = [0u8; MOST_SLOTS];
+    let t = *day.table;
     let slots = usize::from(t.slots);
-    let answer = planner::plan_table(t, harvest, &mut space[..slots]);
+    let answer = planner::plan_table(t, day.harvest, &mut space[..slots]);
     writeln!(
         Output,
         "day slots {slots} jobs {} capacity {}",
         t.count, t.capacity
     )?;
-    if let Planned::Met | Planned::Undecided(_) = answer {
-        print_slots(t, harvest)?;
+    if let Ok(Planned::Met | Planned::Undecided(_)) = answer {
+        print_slots(day)?;
     }
     writeln!(Output, "verdict {}", Verdict(answer))
 }
@@ -85,11 +80,10 @@ fn print_table(t: Table, harvest: &[u8]) -> fmt::Result
 // Prints the listing of the day that stands in a sheet: of a sheet that is refused the refusal's number.
 fn print_sheet(bytes: &[u8]) -> fmt::Result {
     let reading = reader::read(bytes);
-    if let Outcome::Refused(why) = reading.outcome {
-        return writeln!(Output, "{}", Verdict(Planned::Refused(why)));
+    match reading.day() {
+        Ok(day) => print_table(day),
+        Err(why) => writeln!(Output, "refused {}", sheet::number(why)),
     }
-    let t = reading.table;
-    print_table(t, reader::stretch(bytes, t.count, t.slots))
 }
 
 // Prints the listing of the day that stands in a sheet, from any bytes: of a sheet that is refused

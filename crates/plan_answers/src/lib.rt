@@ -1,22 +1,23 @@
 // The calls of `demand` and `planner` that a request asks for, and the line of each (docs/TRIALS.md).
 #![tactic(auto)]
 
-use demand::Searched;
+use demand::Overload;
 use lines::{Hex, Line, Refused};
-use planner::Planned;
+use planner::{Planned, PlannerRefusal};
+use sheet::Refusal;
 use std::fmt;
 use std::fmt::Write;
 
 // The search's answer.
 #[derive(Clone, Copy)]
-struct Found(Searched);
+struct Found(Result<Option<Overload>, Refusal>);
 
 impl fmt::Display for Found {
     fn fmt<W: fmt::Write>(&self, f: &mut fmt::Formatter<W>) -> fmt::Result {
         match self.0 {
-            Searched::Refused(why) => write!(f, "{}", Refused(why)),
-            Searched::Overloaded(o) => write!(f, "{o}"),
-            Searched::Clear => f.write_str("clear"),
+            Ok(Some(o)) => write!(f, "{o}"),
+            Ok(None) => f.write_str("clear"),
+            Err(why) => write!(f, "{}", Refused(why)),
         }
     }
 }
@@ -29,16 +30,14 @@ fn search(payload: &[u8], out: &mut Line<'_>) -> fmt::Result {
 
 // The planner's answer.
 #[derive(Clone, Copy)]
-struct Verdict(Planned);
+struct Verdict(Result<Planned, PlannerRefusal>);
 
 impl fmt::Display for Verdict {
     fn fmt<W: fmt::Write>(&self, f: &mut fmt::Formatter<W>) -> fmt::Result {
         match self.0 {
-            Planned::Refused(why) => write!(f, "{}", Refused(why)),
-            Planned::WrongPlan => write!(f, "refused {}", planner::WRONG_PLAN),
-            Planned::Overloaded(o) => write!(f, "{o}"),
-            Planned::Met => f.write_str("met"),
-            Planned::Undecided(k) => write!(f, "undecided job {k}"),
+            Ok(planned) => write!(f, "{planned}"),
+            Err(PlannerRefusal::HandedIn(why)) => write!(f, "{}", Refused(why)),
+            Err(PlannerRefusal::WrongPlan) => write!(f, "refused {}", planner::WRONG_PLAN),
         }
     }
 }

@@ -24,6 +24,16 @@ pub enum Planned {
     Undecided(usize),
 }
 
+impl fmt::Display for Planned {
+    fn fmt<W: fmt::Write>(&self, f: &mut fmt::Formatter<W>) -> fmt::Result {
+        match self {
+            Planned::Overloaded(o) => o.fmt(f),
+            Planned::Met => f.write_str("met"),
+            Planned::Undecided(k) => write!(f, "undecided job {k}"),
+        }
+    }
+}
+
 // Why nothing is planned.
 #[derive(Clone, Copy, Debug, PartialEq, Eq)]
 pub enum PlannerRefusal {

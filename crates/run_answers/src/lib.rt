@@ -2,7 +2,8 @@
 #![tactic(auto)]
 
 use lines::{Checked, Line, Refused};
-use slot_run::{Decision, State, Stepped};
+use sheet::Refusal;
+use slot_run::{Decision, State};
 use std::fmt;
 use std::fmt::Write;
 
@@ -47,15 +48,15 @@ fn state_in(payload: &[u8]) -> State {
 
 // The step's answer: what a slot does, and why.
 #[derive(Clone, Copy)]
-struct Answer(Stepped);
+struct Answer(Result<Option<Decision>, Refusal>);
 
 impl fmt::Display for Answer {
     fn fmt<W: fmt::Write>(&self, f: &mut fmt::Formatter<W>) -> fmt::Result {
         match self.0 {
-            Stepped::Refused(why) => write!(f, "{}", Refused(why)),
-            Stepped::Over => f.write_str("over"),
-            Stepped::Decided(Decision::Busy(k, why)) => write!(f, "busy {k} {why}"),
-            Stepped::Decided(Decision::Idle(why)) => write!(f, "idle {why}"),
+            Ok(Some(Decision::Busy(k, why))) => write!(f, "busy {k} {why}"),
+            Ok(Some(Decision::Idle(why))) => write!(f, "idle {why}"),
+            Ok(None) => f.write_str("over"),
+            Err(why) => write!(f, "{}", Refused(why)),
         }
     }
 }

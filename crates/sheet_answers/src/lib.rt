@@ -5,7 +5,7 @@
 use lines::{Checked, Hex, Line, Places, Refused};
 use std::fmt;
 use std::fmt::Write;
-use writer::Written;
+use writer::WriteRefusal;
 
 // Behind the sheet of a stretch stand its count and then its slots.
 const SLOTS_FROM: usize = 8;
@@ -44,14 +44,14 @@ fn stretch(payload: &[u8], out: &mut Line<'_>) -> fmt::Result {
 
 // The writer's answer.
 #[derive(Clone, Copy)]
-struct Answer(Written);
+struct Answer(Result<usize, WriteRefusal>);
 
 impl fmt::Display for Answer {
     fn fmt<W: fmt::Write>(&self, f: &mut fmt::Formatter<W>) -> fmt::Result {
         match self.0 {
-            Written::Length(length) => write!(f, "length {length}"),
-            Written::Refused(why) => write!(f, "{}", Refused(why)),
-            Written::NoRoom => write!(f, "refused {}", writer::NO_ROOM),
+            Ok(length) => write!(f, "length {length}"),
+            Err(WriteRefusal::HandedIn(why)) => write!(f, "{}", Refused(why)),
+            Err(WriteRefusal::NoRoom) => write!(f, "refused {}", writer::NO_ROOM),
         }
     }
 }

@@ -33,7 +33,7 @@ fn line(kind: u8, payload: &[u8], space: &mut [u8], out: &mut Line<'_>) -> fmt::
 
 // Answers a request.
 fn answer(kind: u8, payload: &[u8], space: &mut [u8], out: &mut [u8]) {
-    if requests::end(kind, payload) != payload.len() {
+    if requests::end(kind, payload) != Some(payload.len()) {
         print::word(b"malformed\n");
         return;
     }

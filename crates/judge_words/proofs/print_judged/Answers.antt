@@ -1,8 +1,6 @@
 -- What a refusal names stands in the plan and in the table that was read.
-use Rattle.judge_words.proofs.Standing.{fault_jobs, fault_stands}
+use Rattle.judge_words.proofs.Standing.{named}
 use Rattle.judge_words.proofs.print_judged.Goals as goal
 
-ruleset standing = (fault_jobs, fault_stands)
-
 pub print_fault-requires : goal.print_fault-requires
-print_fault-requires c = search standing
+print_fault-requires c = named _ _ c.read-reading.ensures _ _ c.plan_on_sheet.ensures _ c.in-Err-Plan.is _ c.in-Err-Plan.field-0-is

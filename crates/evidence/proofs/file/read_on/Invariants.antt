@@ -1,4 +1,4 @@
--- Nothing but safety is asked: what is left of the room falls, and the room stays as long.
+-- Nothing but safety is asked: what is left of the room falls.
 use Prim.Native.Nat.{◌≤◌, ◌-◌}
 use lib.ListN.{length}
 use Rattle.evidence.proofs.file.read_on.Given as goal
