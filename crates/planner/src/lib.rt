@@ -11,7 +11,6 @@ use demand::Overload;
 use sheet::{CheckedDay, Refusal, Table};
 use std::error::Error;
 use std::fmt;
-use totals::SummedDay;
 
 // What is planned for a day.
 #[derive(Clone, Copy, Debug, PartialEq, Eq)]
@@ -82,11 +81,7 @@ fn plan_day(
     if let Some(o) = demand::first_overload(day.table, &totals) {
         return Ok(Planned::Overloaded(o));
     }
-    let summed = SummedDay {
-        day,
-        totals: &totals,
-    };
-    match slot_run::whole_run(summed, plan) {
+    match slot_run::whole_run(day, &totals, plan) {
         None => Ok(Planned::Met),
         Some(k) => Ok(Planned::Undecided(k)),
     }

@@ -86,7 +86,7 @@ pub fn wide(number: u16) -> u32
 pub fn cut(capacity: u16, level: u32) -> u16
     ensures { result ≡ min capacity level }
 {
-    level.min(u32::from(capacity)) as u16
+    u32::from(capacity).min(level) as u16
 }
 
 // What all the slots that a job wants cost: slots wanted × energy.

@@ -8,6 +8,7 @@ mod sums;
 ghost use Rattle.std.specs.Prelude.{◌≡◌, length};
 ghost use Rattle.sheet.specs.Checked.{Checks, the_day};
 ghost use Rattle.sheet.specs.HandedIn.{HandedIn, on_table};
+ghost use Rattle.totals.specs.Totals.{TotalsOf};
 ghost use Rattle.choice.specs.Choosing.{unfinished};
 ghost use Rattle.slot_run.specs.Run.{first_state, state_at, plan_of};
 ghost use Rattle.slot_run.specs.Promise.{Starts, Steps};
@@ -15,7 +16,6 @@ ghost use Rattle.slot_run.specs.Promise.{Starts, Steps};
 pub use choice::State;
 pub use rules::{BusyWhy, Decision, IdleWhy};
 use sheet::{CheckedDay, Refusal, Table};
-use totals::SummedDay;
 
 // What a step yields: what the slot does, or nothing where the state's slot is past the last slot of the
 // day, or the refusal, 3, 4, 5 or 6; and the state after it, which is the state that was handed in where the
@@ -83,12 +83,8 @@ fn take_step(
     }
     let totals = totals::running(day.harvest);
     let jobs = columns::by_columns(day.table);
-    let summed = SummedDay {
-        day,
-        totals: &totals,
-    };
     let at = s.slot as usize;
-    Ok(Some(slot::take_slot(summed, &jobs, at, s)))
+    Ok(Some(slot::take_slot(day, &jobs, &totals, at, s)))
 }
 
 // One step of the run, by the six rules, from any state at all: it looks for no overload and takes
@@ -103,17 +99,24 @@ pub fn step(t: Table, harvest: &[u8], s: State) -> StepResult
 }
 
 // The whole run of a day: its plan, a byte a slot, and the job that is left unfinished at the smallest
-// deadline, ties the lowest number. Only for a plan of slots bytes; `planner` calls it so, and nobody else.
-pub fn whole_run(summed: SummedDay, plan: &mut [u8]) -> Option<usize>
-    requires { length plan.old ≡ summed.day.table.now.slots }
-    ensures unfinished { result ≡ unfinished (the_day summed.entry.day) (state_at (the_day summed.entry.day) summed.entry.day.table.now.slots) }
-    ensures plan { plan.new ≡ plan_of (the_day summed.entry.day) }
+// deadline, ties the lowest number. Only with the running totals of the day's harvest and a plan of slots
+// bytes; `planner` calls it so, and nobody else. (A type that holds a day and its totals would ask nothing
+// here; but with it the totals stand on the stack twice.)
+pub fn whole_run(
+    day: CheckedDay,
+    totals: &[u32; totals::ENTRIES],
+    plan: &mut [u8],
+) -> Option<usize>
+    requires totals { TotalsOf day.harvest.now totals.now }
+    requires room { length plan.old ≡ day.table.now.slots }
+    ensures unfinished { result ≡ unfinished (the_day day.entry) (state_at (the_day day.entry) day.entry.table.now.slots) }
+    ensures plan { plan.new ≡ plan_of (the_day day.entry) }
 {
-    let jobs = columns::by_columns(summed.day.table);
-    let mut s = first_state(summed.day);
+    let jobs = columns::by_columns(day.table);
+    let mut s = first_state(day);
     for n in 0..plan.len() {
-        let decision = slot::take_slot(summed, &jobs, n, &mut s);
+        let decision = slot::take_slot(day, &jobs, totals, n, &mut s);
         plan[n] = slot::plan_byte(decision);
     }
-    earliest::find_unfinished(summed.day.table.count, &jobs, &s.left)
+    earliest::find_unfinished(day.table.count, &jobs, &s.left)
 }

@@ -2,6 +2,7 @@
 ghost use Rattle.std.specs.Prelude.{◌≡◌, ◌+◌, ◌-◌, ◌<◌, ◌≤◌, get_or, set};
 ghost use Rattle.sheet.specs.Checked.{the_day};
 ghost use Rattle.sheet.specs.Table.{most_jobs, idle_byte, Day};
+ghost use Rattle.totals.specs.Totals.{TotalsOf};
 ghost use Rattle.columns.specs.Columns.{energies_from, ColumnsOf};
 ghost use Rattle.rules.specs.Rules.{decision_says, rule_for, decided, next_state};
 ghost use Rattle.slot_run.specs.Run.{plan_byte};
@@ -9,7 +10,7 @@ ghost use Rattle.slot_run.specs.Steps.{Shows};
 
 use choice::State;
 use rules::{Decision, IdleWhy};
-use totals::SummedDay;
+use sheet::CheckedDay;
 
 // A slot of a day, as its rules look at it: how many jobs there are, the capacity, the charge at hand in
 // it, what the slots before it harvested, the state as it begins, and the columns and totals of its day.
@@ -71,26 +72,27 @@ fn spend(jobs: &[u16; columns::LENGTH], left: &mut [u16; sheet::MOST_JOBS], k: u
 // One slot of a day, for the run and for a single step, with the slot also as an index: what it does. The
 // state is then as the next slot begins.
 pub fn take_slot(
-    summed: SummedDay,
+    day: CheckedDay,
     jobs: &[u16; columns::LENGTH],
+    totals: &[u32; totals::ENTRIES],
     at: usize,
     s: &mut State,
 ) -> Decision
-    requires columns { ColumnsOf summed.day.table.now jobs.now }
-    requires in_day { (at ≡ s.old.slot) × (at < summed.day.table.now.slots) }
-    ensures decides { decision_says result ≡ decided (the_day summed.entry.day) s.old }
-    ensures next { s.new ≡ next_state (the_day summed.entry.day) s.old }
+    requires columns { ColumnsOf day.table.now jobs.now }
+    requires totals { TotalsOf day.harvest.now totals.now }
+    requires in_day { (at ≡ s.old.slot) × (at < day.table.now.slots) }
+    ensures decides { decision_says result ≡ decided (the_day day.entry) s.old }
+    ensures next { s.new ≡ next_state (the_day day.entry) s.old }
 {
-    let day = summed.day;
     let charge = rules::at_hand(s.level, day.harvest[at]);
     let slot = Slot {
         count: day.table.count,
         capacity: day.table.capacity,
         charge,
-        harvested: summed.totals[at],
+        harvested: totals[at],
         state: s,
         jobs,
-        totals: summed.totals,
+        totals,
     };
     let decision = slot.decide();
     let spent = match decision {

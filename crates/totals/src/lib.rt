@@ -2,11 +2,7 @@
 // harvest of any slots in a row is the difference of two.
 #![tactic(auto)]
 
-mod summed;
-
 ghost use Rattle.totals.specs.Totals.{TotalsOf};
-
-pub use summed::SummedDay;
 
 // An entry for each number of slots, from none to the longest day's.
 pub const ENTRIES: usize = sheet::MOST_SLOTS as usize + 1;

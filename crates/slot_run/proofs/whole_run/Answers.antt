@@ -12,10 +12,10 @@ loop-n-init c = run_none _ _ _ (c.first_state-s.ensures)
 pub take_slot-decision-requires-clause-in_day : goal.take_slot-decision-requires-clause-in_day
 take_slot-decision-requires-clause-in_day c =
     let run = c.loop-n.invariant in
-    (sym (ap (λ (x : State). x.slot) run.state ∙ state_slot (the_day c.args.summed.day) c.loop-n.n), omega (arith, c.requires))
+    (sym (ap (λ (x : State). x.slot) run.state ∙ state_slot (the_day c.args.day) c.loop-n.n), omega (arith, c.requires.room))
 
 pub plan_byte-requires : goal.plan_byte-requires
-plan_byte-requires c = rw c.take_slot-decision.ensures.decides (small_byte _ c.loop-n.s c.args.summed.day.good.few_jobs)
+plan_byte-requires c = rw c.take_slot-decision.ensures.decides (small_byte _ c.loop-n.s c.args.day.good.few_jobs)
 
 pub loop-n-preserved : goal.loop-n-preserved
 loop-n-preserved c =
@@ -24,9 +24,9 @@ loop-n-preserved c =
 
 pub returns-clause-unfinished : goal.returns-clause-unfinished
 returns-clause-unfinished c =
-    let day = the_day c.args.summed.day in
-    let all = run_all day _ _ _ _ c.loop-n.invariant c.requires (omega arith) in
+    let day = the_day c.args.day in
+    let all = run_all day _ _ _ _ c.loop-n.invariant c.requires.room (omega arith) in
     c.find_unfinished.ensures day _ c.by_columns-jobs.ensures refl (sym (ap (λ (x : State). x.left) all.0))
 
 pub returns-clause-plan : goal.returns-clause-plan
-returns-clause-plan c = (run_all (the_day c.args.summed.day) _ _ _ _ c.loop-n.invariant c.requires (omega arith)).1
+returns-clause-plan c = (run_all (the_day c.args.day) _ _ _ _ c.loop-n.invariant c.requires.room (omega arith)).1

@@ -13,13 +13,13 @@ use Rattle.slot_run.proofs.slot.take_slot.Goals as goal
 
 module _ (c : After-decide-decision) where
   abbrev day : Day
-  day = the_day c.args.summed.day
+  day = the_day c.args.day
 
   does : decision_says c.decide-decision.result ≡ decided day c.args.s.now
-  does = c.decide-decision.ensures day (shows _ _ _ _ _ _ _ (record { good = c.args.summed.day.good; totals_are = c.args.summed.totals_are }) c.requires.columns c.requires.in_day c.at_hand-charge.ensures)
+  does = c.decide-decision.ensures day (shows _ _ _ _ _ _ _ (record { good = c.args.day.good; totals_are = c.requires.totals }) c.requires.columns c.requires.in_day c.at_hand-charge.ensures)
 
   charge_is : c.at_hand-charge.result ≡ at_hand day c.args.s.now
-  charge_is = c.at_hand-charge.ensures ∙ ap (λ n. c.args.s.now.level + harvest_at c.args.summed.day.harvest.now n) c.requires.in_day.0
+  charge_is = c.at_hand-charge.ensures ∙ ap (λ n. c.args.s.now.level + harvest_at c.args.day.harvest.now n) c.requires.in_day.0
 
   module _ (k : ℕ) (why : BusyWhy) (e : c.decide-decision.result ≡ Busy k why) where
     is_busy : decided day c.args.s.now ≡ busy (busy_rule why) k
@@ -30,7 +30,7 @@ module _ (c : After-decide-decision) where
         × ((job_of day.table k).energy ≤ c.at_hand-charge.result)
     can =
         let facts = busy_facts day _ _ k is_busy in
-        let few : k < most_jobs = omega (arith, facts.0, c.args.summed.day.good.few_jobs) in
+        let few : k < most_jobs = omega (arith, facts.0, c.args.day.good.few_jobs) in
         (few, facts.1, c.requires.columns.energy k facts.0 few, omega (arith, facts.2, charge_is))
 
 pub spend-spent-requires : goal.spend-spent-requires
@@ -53,7 +53,7 @@ returns-clause-next c =
       | in-Idle w ↦
           let is = sym (does before) ∙ ap decision_says w.in-Idle.is ∙ idle_says w.in-Idle.field-0 in
           let whole : c.at_hand-charge.result - c.match-decision.spent ≡ c.at_hand-charge.result = omega (arith, w.spent-is) in
-          rw w.s-is (next_by_parts d s _ _ (idle_leaves d s _ _ s.left (charge_is before) refl _ is (c.cut-s.ensures ∙ ap (min c.args.summed.day.table.now.capacity) whole)))
+          rw w.s-is (next_by_parts d s _ _ (idle_leaves d s _ _ s.left (charge_is before) refl _ is (c.cut-s.ensures ∙ ap (min c.args.day.table.now.capacity) whole)))
       | in-Busy w ↦
           let may = can before w.in-Busy.k _ w.in-Busy.is in
           let price = w.spent-is ∙ w.spend-spent.ensures.cost ∙ may.2 in
