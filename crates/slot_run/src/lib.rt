@@ -102,11 +102,7 @@ pub fn step(t: Table, harvest: &[u8], s: State) -> StepResult
 // deadline, ties the lowest number. Only with the running totals of the day's harvest and a plan of slots
 // bytes; `planner` calls it so, and nobody else. (A type that holds a day and its totals would ask nothing
 // here; but with it the totals stand on the stack twice.)
-pub fn whole_run(
-    day: CheckedDay,
-    totals: &[u32; totals::ENTRIES],
-    plan: &mut [u8],
-) -> Option<usize>
+pub fn whole_run(day: CheckedDay, totals: &[u32; totals::ENTRIES], plan: &mut [u8]) -> Option<usize>
     requires totals { TotalsOf day.harvest.now totals.now }
     requires room { length plan.old ≡ day.table.now.slots }
     ensures unfinished { result ≡ unfinished (the_day day.entry) (state_at (the_day day.entry) day.entry.table.now.slots) }
