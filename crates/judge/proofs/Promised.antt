@@ -46,10 +46,10 @@ module _ (h : HandedIn) (why : Refusal) (refused : check_says h ≡ refusal_says
 
 -- ---- a plan, past the check
 
-module _ (h : HandedIn) (d : Day) (plan : List ℕ) (leave : check_says h ≡ gives tt) (same : d ≡ day_in h) where
+module _ (h : HandedIn) (d : Day) (plan : List ℕ) (checked : (check_says h ≡ gives tt) × (d ≡ day_in h)) where
   plan_here : (r : Result (Unit {0}) PlanRefusal) → plan_answered r ≡ plan_says d plan → JudgesPlan h plan r
   unfolding judged_plan
-  plan_here r e = record { answer = e ∙ ap (λ (x : Day). plan_says x plan) same ∙ sym (past_check h _ leave) }
+  plan_here r e = record { answer = e ∙ ap (λ (x : Day). plan_says x plan) checked.1 ∙ sym (past_check h _ checked.0) }
 
   pub says_eleven : (length plan ≡ d.table.slots → ⊥) → JudgesPlan h plan (Err (Plan.Plan WrongLength))
   unfolding plan_says
@@ -84,17 +84,17 @@ claim_in_day slots number from to e =
       ltb-false slots to (or_right (kind || order) (ltb slots to) e),
     )
 
-module _ (h : HandedIn) (d : Day) (leave : check_says h ≡ gives tt) (same : d ≡ day_in h) (number from to : ℕ) where
+module _ (h : HandedIn) (d : Day) (checked : (check_says h ≡ gives tt) × (d ≡ day_in h)) (number from to : ℕ) where
   asked : claim_fault d.table.slots number from to ≡ claim_fault (day_in h).table.slots number from to
-  asked = ap (λ (x : Day). claim_fault x.table.slots number from to) same
+  asked = ap (λ (x : Day). claim_fault x.table.slots number from to) checked.1
 
   pub judged_seventeen : claim_fault d.table.slots number from to ≡ true → JudgesClaim h number from to (Err Claim.NoInterval)
   unfolding judged_claim claim_says judged_sums
-  judged_seventeen is = record { answer = rw (leave, sym asked ∙ is); sums = rw (leave, sym asked ∙ is) }
+  judged_seventeen is = record { answer = rw (checked.0, sym asked ∙ is); sums = rw (checked.0, sym asked ∙ is) }
 
   module _ (is : claim_fault d.table.slots number from to ≡ false) (kind : Kind) (told : kind ≡ kind_of number) (sums : Sums) (said : sums ≡ sums_of kind d from to) where
     said_there : sums ≡ sums_of (kind_of number) (day_in h) from to
-    said_there = said ∙ ap₂ (λ (k : Kind) (x : Day). sums_of k x from to) told same
+    said_there = said ∙ ap₂ (λ (k : Kind) (x : Day). sums_of k x from to) told checked.1
 
     demand_is : sums.demand ≡ demand_of (kind_of number) (day_in h) from to
     unfolding sums_of
@@ -110,12 +110,12 @@ module _ (h : HandedIn) (d : Day) (leave : check_says h ≡ gives tt) (same : d 
 
     weighs : sums ≡ judged_sums h number from to
     unfolding judged_sums
-    weighs = rw (leave, sym asked ∙ is) said_there
+    weighs = rw (checked.0, sym asked ∙ is) said_there
 
     pub judged_accepted : sums.supply < sums.demand → JudgesClaim h number from to (Ok sums)
     unfolding judged_claim claim_says
-    judged_accepted above = record { answer = rw (leave, sym asked ∙ is, test_is ∙ lt-ltb _ _ above); sums = weighs }
+    judged_accepted above = record { answer = rw (checked.0, sym asked ∙ is, test_is ∙ lt-ltb _ _ above); sums = weighs }
 
     pub judged_eighteen : sums.demand ≤ sums.supply → JudgesClaim h number from to (Err (Claim.NotOverloaded sums))
     unfolding judged_claim claim_says
-    judged_eighteen within = record { answer = rw (leave, sym asked ∙ is, test_is ∙ le-ltb _ _ within); sums = weighs }
+    judged_eighteen within = record { answer = rw (checked.0, sym asked ∙ is, test_is ∙ le-ltb _ _ within); sums = weighs }

@@ -33,35 +33,35 @@ plan_refused h why refused plan =
 
 -- ---- past the check, of the day that was handed in
 
-module _ (h : HandedIn) (d : Day) (plan : List ℕ) (leave : check_says h ≡ gives tt) (same : d ≡ day_in h) where
+module _ (h : HandedIn) (d : Day) (plan : List ℕ) (checked : (check_says h ≡ gives tt) × (d ≡ day_in h)) where
   slots : d.table.slots ≡ (day_in h).table.slots
-  slots = ap (λ (x : Day). x.table.slots) same
+  slots = ap (λ (x : Day). x.table.slots) checked.1
 
   pub plans_wrong : (length plan ≡ d.table.slots → ⊥) → Plans h plan (Err WrongPlan) plan
   unfolding plan_for plan_left
   plans_wrong unfit =
       let other = sym (ap (eqb (length plan)) slots) ∙ ne_eqb _ _ unfit in
-      record { answer = rw (leave, other); buffer = rw (leave, other) }
+      record { answer = rw (checked.0, other); buffer = rw (checked.0, other) }
 
   module _ (fit : length plan ≡ d.table.slots) (found : Option Overload) (said : found ≡ first_overload d) where
     fits : eqb (length plan) (day_in h).table.slots ≡ true
     fits = sym (ap (eqb (length plan)) slots) ∙ eq-eqb _ _ fit
 
     said_there : first_overload (day_in h) ≡ found
-    said_there = sym (said ∙ ap (λ (x : Day). first_overload x) same)
+    said_there = sym (said ∙ ap (λ (x : Day). first_overload x) checked.1)
 
     pub plans_overloaded : (o : Overload) → found ≡ Some o → Plans h plan (Ok (Overloaded o)) plan
     unfolding plan_for plan_left verdict_of
     plans_overloaded o told =
         let e = said_there ∙ told in
-        record { answer = rw (leave, fits, e); buffer = rw (leave, fits, e) }
+        record { answer = rw (checked.0, fits, e); buffer = rw (checked.0, fits, e) }
 
     module _ (told : found ≡ None) (left : Option ℕ) (after : List ℕ) (left_is : left ≡ unfinished d (state_at d d.table.slots)) (after_is : after ≡ plan_of d) where
       left_there : left ≡ unfinished (day_in h) (state_at (day_in h) (day_in h).table.slots)
-      left_there = left_is ∙ ap (λ (x : Day). unfinished x (state_at x x.table.slots)) same
+      left_there = left_is ∙ ap (λ (x : Day). unfinished x (state_at x x.table.slots)) checked.1
 
       after_there : after ≡ plan_of (day_in h)
-      after_there = after_is ∙ ap plan_of same
+      after_there = after_is ∙ ap plan_of checked.1
 
       verdict : (x : Option ℕ) → left ≡ x → verdict_of (day_in h) ≡ by_unfinished x
       unfolding verdict_of
@@ -69,8 +69,8 @@ module _ (h : HandedIn) (d : Day) (plan : List ℕ) (leave : check_says h ≡ gi
 
       pub plans_met : left ≡ None → Plans h plan (Ok Met) after
       unfolding plan_for plan_left
-      plans_met e = let v = verdict _ e in record { answer = rw (leave, fits, v); buffer = after_there ∙ rw (leave, fits, v) }
+      plans_met e = let v = verdict _ e in record { answer = rw (checked.0, fits, v); buffer = after_there ∙ rw (checked.0, fits, v) }
 
       pub plans_undecided : (k : ℕ) → left ≡ Some k → Plans h plan (Ok (Undecided k)) after
       unfolding plan_for plan_left
-      plans_undecided k e = let v = verdict _ e in record { answer = rw (leave, fits, v); buffer = after_there ∙ rw (leave, fits, v) }
+      plans_undecided k e = let v = verdict _ e in record { answer = rw (checked.0, fits, v); buffer = after_there ∙ rw (checked.0, fits, v) }

@@ -79,14 +79,6 @@ module _ (h : HandedIn) (o : Result (Unit {0}) Refusal) (said : outcome_says o �
   pub outcome_refused_exactly : (r : Refusal) → (o ≡ Err r) ↔ GivenFirst (States h) r
   outcome_refused_exactly r = Iff.trans (outcome_exactly o (Err r) _ said) (check_refuses h r)
 
-  -- past the check the day is well formed
-  pub checked_good : o ≡ Ok tt → GoodDay (day_in h)
-  checked_good e = sound_day h (outcome_accepted_exactly.0 e)
-
--- the same of a table with its harvest
-pub checked_table : (t : Table) (harvest : List ℕ) (o : Result (Unit {0}) Refusal) → outcome_says o ≡ table_says (day_of t harvest) → o ≡ Ok tt → GoodDay (day_of t harvest)
-checked_table t harvest = checked_good (on_table t harvest)
-
 -- ---- a call's own number, asked right after the check
 
 pub asked_exactly : {A : Type 0} (h : HandedIn) (n : ℕ) (b : Bool) (rest : Paper A) → sheet_has n ≡ false → (rest ≡ refuses n → ⊥)
@@ -96,12 +88,3 @@ asked_exactly {A} h n b rest none other = own_exactly h (refuses n when b else r
     asked : (test : Bool) → ((refuses n when test else rest) ≡ refuses n) ↔ (test ≡ true)
     asked true = ((λ e. refl), (λ e. refl))
     asked false = ((λ e. absurd (other e)), (λ e. absurd (false≢true e)))
-
--- ---- a table with its harvest that stands in something sound: a call answers there as it does here
-
-module _ (h : HandedIn) (t : Table) (harvest : List ℕ) (leave : check_says h ≡ gives tt) (same : day_of t harvest ≡ day_in h) where
-  pub leave_here : check_says (on_table t harvest) ≡ gives tt
-  leave_here = (check_leaves (on_table t harvest)).1 (subst GoodDay (sym same) (sound_day h ((check_leaves h).0 leave)))
-
-  pub called_there : {A : Type 0} (rest : Day → Paper A) → (check_says (on_table t harvest) else rest (day_of t harvest)) ≡ (check_says h else rest (day_in h))
-  called_there rest = past_check (on_table t harvest) (rest (day_of t harvest)) leave_here ∙ ap rest same ∙ sym (past_check h (rest (day_in h)) leave)

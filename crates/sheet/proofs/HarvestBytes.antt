@@ -4,10 +4,6 @@ use mathlib.Core.Path.{◌≡◌, refl}
 use native.Mathlib.Omega.{arith}
 use Rattle.sheet.specs.Table.{counted_as, most_counted}
 
-pub counted_most : (byte : ℕ) → byte < 256 → counted_as byte ≤ most_counted
-unfolding counted_as
-counted_most byte h = omega arith
-
 pub counts_itself : (byte : ℕ) → byte < 256 → (byte ≡ counted_as byte) × (byte ≤ most_counted)
 unfolding counted_as
-counts_itself byte h = (refl, counted_most byte h)
+counts_itself byte h = (refl, omega arith)

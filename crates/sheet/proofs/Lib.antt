@@ -5,6 +5,7 @@ pub mod Lists
 pub mod Order
 pub mod Parts
 pub mod Refusals
+pub mod Residual
 pub mod Stated
 pub mod Sums
 pub mod Tests

@@ -96,10 +96,7 @@ outcome_one = said_one outcome_says (by_refusal Err (Ok tt)) outcome_back
 pub outcome_exactly : (o p : Result (Unit {0}) Refusal) (defined : Check) → outcome_says o ≡ defined → (o ≡ p) ↔ (defined ≡ outcome_says p)
 outcome_exactly = said_exactly outcome_says (by_refusal Err (Ok tt)) outcome_back
 
--- what an outcome that is a refusal says, refuses; and of one that is accepted, accepts
-pub says_refuses : (o : Result (Unit {0}) Refusal) (r : Refusal) (x : Check) → o ≡ Err r → outcome_says o ≡ x → Refuses x
-says_refuses o r x e h = subst Refuses (sym (ap outcome_says e) ∙ h) (refusal_refuses _ r)
-
+-- what an outcome that accepts says, gives leave
 pub says_gives : (o : Result (Unit {0}) Refusal) (x : Check) → o ≡ Ok tt → outcome_says o ≡ x → x ≡ gives tt
 says_gives o x e h = sym h ∙ ap outcome_says e
 

@@ -24,15 +24,15 @@ steps_refused h s why refused =
       state = sym (where_refused (check_says h) _ s (subst Refuses (sym refused) (refusal_refuses _ why)));
     }
 
-module _ (h : HandedIn) (d : Day) (s : State) (leave : check_says h ≡ gives tt) (same : d ≡ day_in h) where
+module _ (h : HandedIn) (d : Day) (s : State) (checked : (check_says h ≡ gives tt) × (d ≡ day_in h)) where
   slots : d.table.slots ≡ (day_in h).table.slots
-  slots = ap (λ (x : Day). x.table.slots) same
+  slots = ap (λ (x : Day). x.table.slots) checked.1
 
   pub steps_over : d.table.slots ≤ s.slot → Steps h s (record { answer = Ok None; state = s })
   unfolding step_of state_after
   steps_over past =
       let over = sym (ap (ltb s.slot) slots) ∙ le-ltb _ _ past in
-      record { answer = rw (leave, over); state = rw (leave, over) }
+      record { answer = rw (checked.0, over); state = rw (checked.0, over) }
 
   pub steps_decided : (r : Decision) (next : State) → s.slot < d.table.slots → decision_says r ≡ decided d s → next ≡ next_state d s
       → Steps h s (record { answer = Ok (Some r); state = next })
@@ -40,6 +40,6 @@ module _ (h : HandedIn) (d : Day) (s : State) (leave : check_says h ≡ gives tt
   steps_decided r next in_day p q =
       let here = sym (ap (ltb s.slot) slots) ∙ lt-ltb _ _ in_day in
       record {
-        answer = rw (leave, here) (ap (λ (x : Ruled). gives (ruled x)) (p ∙ ap (λ (x : Day). decided x s) same));
-        state = rw (leave, here) (q ∙ ap (λ (x : Day). next_state x s) same);
+        answer = rw (checked.0, here) (ap (λ (x : Ruled). gives (ruled x)) (p ∙ ap (λ (x : Day). decided x s) checked.1));
+        state = rw (checked.0, here) (q ∙ ap (λ (x : Day). next_state x s) checked.1);
       }

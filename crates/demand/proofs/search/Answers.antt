@@ -1,7 +1,7 @@
 -- The answer is the check's refusal, or what `first_overload` found of the day.
 use mathlib.Core.Path.{sym, ap, ◌∙◌}
 use Rattle.std.specs.Prelude.{Option}
-use Rattle.std.proofs.lemmas.Result.{err_from_is_err_and}
+use Rattle.sheet.proofs.Residual.{err_is}
 use Rattle.sheet.specs.HandedIn.{on_table}
 use Rattle.sheet.specs.Paper.{gives}
 use Rattle.sheet.specs.Table.{Day}
@@ -13,8 +13,7 @@ use Rattle.demand.proofs.search.Goals as goal
 pub returns-in_err-day : goal.returns-in_err-day
 unfolding search_of
 returns-in_err-day c =
-    let p = err_from_is_err_and c.from_residual.result c.from_residual.ensures.1 in
-    rw (p.1, p.2) (record { answer = sym (hands_on (on_table _ _) _ _ c.in_err-day.ensures) })
+    rw (err_is _ c.from_residual.ensures.1) (record { answer = sym (hands_on (on_table _ _) _ _ c.in_err-day.ensures) })
 
 pub first_overload-requires : goal.first_overload-requires
 first_overload-requires c = (_, record { good = c.in_ok-day.day.good; totals_are = c.running-totals.ensures })

@@ -28,10 +28,3 @@ loop-byte-preserved c =
           ∙ ap (harvest_of args.harvest.now args.from) next,
       omega arith,
     )
-
-pub returns : goal.returns
-returns c =
-    let args = c.args in
-    let bounds = c.requires in
-    let at_end : args.from + c.loop-byte.byte-index ≡ args.to = omega arith in
-    (c.loop-byte.invariant.0 ∙ ap (harvest_of args.harvest.now args.from) at_end, omega arith)

@@ -1,7 +1,7 @@
 -- The refusal of what was handed in, 17, or the two sums compared.
 use mathlib.Core.Path.{◌≡◌, ap₂, ◌∙◌, subst}
 use Rattle.std.proofs.Common.{ℕ, ◌<◌, ◌≤◌}
-use Rattle.std.proofs.lemmas.Result.{err_from_is_err_and}
+use Rattle.sheet.proofs.Residual.{err_is}
 use Rattle.sheet.specs.Checked.{Checks, the_day}
 use Rattle.judge.specs.Judge.{sums_of}
 use Rattle.judge.proofs.Promised.{claim_refused, claim_in_day, judged_seventeen, judged_accepted, judged_eighteen}
@@ -22,27 +22,22 @@ weighed c =
 
 pub returns-in_err-day : goal.returns-in_err-day
 returns-in_err-day c h checks =
-    let p = err_from_is_err_and c.from_residual.result c.from_residual.ensures.1 in
-    rw (p.1, p.2) (claim_refused h _ (subst (Checks h) c.in_err-day.was checks) _ _ _)
+    rw (err_is _ c.from_residual.ensures.1) (claim_refused h _ (subst (Checks h) c.in_err-day.was checks) _ _ _)
 
 pub returns-in_err-claim : goal.returns-in_err-claim
 returns-in_err-claim c h checks =
-    let day = subst (Checks h) c.in_ok-day.was checks in
-    let p = err_from_is_err_and c.from_residual-in_err-claim.result c.from_residual-in_err-claim.ensures.1 in
     let seventeen = c.in_err-claim.ensures in
-    rw (p.1, p.2, seventeen.1) (judged_seventeen h (the_day c.in_ok-day.day) day.0 day.1 _ _ _ seventeen.0)
+    rw (err_is _ c.from_residual-in_err-claim.ensures.1, seventeen.1) (judged_seventeen h _ (subst (Checks h) c.in_ok-day.was checks) _ _ _ seventeen.0)
 
 pub weigh-sums-requires : goal.weigh-sums-requires
 weigh-sums-requires c = in_day c
 
 pub returns-then-sums : goal.returns-then-sums
 returns-then-sums c h checks =
-    let day = subst (Checks h) c.in_ok-day.was checks in
     let named = c.in_ok-claim.ensures in
-    judged_accepted h (the_day c.in_ok-day.day) day.0 day.1 _ _ _ named.0 _ named.1 _ (weighed (goal.at.returns-then-sums c).After-weigh-sums) c.if-sums.true
+    judged_accepted h _ (subst (Checks h) c.in_ok-day.was checks) _ _ _ named.0 _ named.1 _ (weighed (goal.at.returns-then-sums c).After-weigh-sums) c.if-sums.true
 
 pub returns-else-sums : goal.returns-else-sums
 returns-else-sums c h checks =
-    let day = subst (Checks h) c.in_ok-day.was checks in
     let named = c.in_ok-claim.ensures in
-    judged_eighteen h (the_day c.in_ok-day.day) day.0 day.1 _ _ _ named.0 _ named.1 _ (weighed (goal.at.returns-else-sums c).After-weigh-sums) c.if-sums.false
+    judged_eighteen h _ (subst (Checks h) c.in_ok-day.was checks) _ _ _ named.0 _ named.1 _ (weighed (goal.at.returns-else-sums c).After-weigh-sums) c.if-sums.false

@@ -4,22 +4,8 @@ use mathlib.Core.Path.{refl}
 use Rattle.judge.proofs.Promised.{weighed_time, weighed_energy}
 use Rattle.judge.proofs.weigh.Goals as goal
 
-pub harvest_of-requires : goal.harvest_of-requires
-harvest_of-requires c =
-    let good = c.args.day.good in
-    let fits = good.harvest_fits in
-    let few = good.few_slots in
-    let bounds = c.requires in
-    (omega arith, omega arith, omega arith)
-
 pub returns-in-Time : goal.returns-in-Time
 returns-in-Time c = weighed_time _ _ _ _ _ c.demand_of-demand.ensures c.in-Time.is c.from-supply.ensures
 
 pub returns-in-Energy : goal.returns-in-Energy
 returns-in-Energy c = weighed_energy _ _ _ _ _ c.demand_of-demand.ensures c.in-Energy.is _ _ refl c.wide.ensures.0 c.harvest_of.ensures.0
-
-pub overflow_add-supply : goal.overflow_add-supply
-overflow_add-supply c =
-    let came = c.harvest_of.ensures.1 in
-    let level = c.wide.ensures.1 in
-    record { fits = omega arith }

@@ -3,7 +3,7 @@ use Prim.Native.Nat.{◌+◌}
 use mathlib.Core.Path.{◌≡◌, refl, ap₂, ◌∙◌}
 use native.Mathlib.Omega.{arith}
 use lib.ListN.{get_or}
-use Rattle.std.proofs.lemmas.Result.{err_from_is_err_and}
+use Rattle.sheet.proofs.Residual.{err_is}
 use Rattle.sheet.specs.Checked.{the_day}
 use Rattle.plan_slots.proofs.Keeping.{kept_first, SlotRead, kept_idle, refused_stranger, refused_job, kept_busy, kept_decides}
 use Rattle.plan_slots.proofs.judge_slots.Goals as goal
@@ -39,8 +39,7 @@ returns-then-table-k c =
 pub returns-in_err-level : goal.returns-in_err-level
 returns-in_err-level c =
     let read = slot_read (goal.at.returns-in_err-level c).After-from-in-loop-i in
-    let passed = err_from_is_err_and c.from_residual.result c.from_residual.ensures.1 in
-    rw (passed.1, passed.2) (refused_job read c.if-table-k.false _ c.in_err-level.ensures)
+    rw (err_is _ c.from_residual.ensures.1) (refused_job read c.if-table-k.false _ c.in_err-level.ensures)
 
 pub loop-i-preserved : goal.loop-i-preserved
 loop-i-preserved c =

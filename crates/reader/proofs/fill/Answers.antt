@@ -1,6 +1,6 @@
 -- The first record that is refused is the answer; where none is, all the jobs stand in their places.
 use Rattle.std.proofs.Common.{arith}
-use Rattle.std.proofs.lemmas.Result.{err_from_is_err_and}
+use Rattle.sheet.proofs.Residual.{err_is}
 use mathlib.Core.Path.{sym}
 use borrow.Author.Rules.{rules}
 use Rattle.reader.proofs.Records.{read_none, read_more, record_refuses, records_good}
@@ -11,8 +11,7 @@ loop-k-init c = read_none _ _ _ c.requires
 
 pub returns-in_err-check_record : goal.returns-in_err-check_record
 returns-in_err-check_record c =
-    let p = err_from_is_err_and c.from_residual-in_err-check_record.result c.from_residual-in_err-check_record.ensures.1 in
-    rw (p.1, p.2)
+    rw (err_is _ c.from_residual-in_err-check_record.ensures.1)
     (record_refuses _ _ c.in_ok-trailer.ensures _ _ c.loop-k.invariant (omega arith) _ c.job_in-job.ensures _ c.in_err-check_record.ensures)
 
 pub loop-k-preserved : goal.loop-k-preserved
@@ -20,8 +19,3 @@ loop-k-preserved c =
     let numbers = c.in_ok-trailer.ensures in
     let few = numbers.few in
     read_more _ _ _ _ c.job_in-job.ensures _ c.in_ok-check_record.ensures _ c.loop-k.invariant (sym (search rules)) (omega arith)
-
-pub returns : goal.returns
-returns c =
-    let numbers = c.in_ok-trailer.ensures in
-    records_good _ _ numbers _ _ c.loop-k.invariant (omega arith)

@@ -1,7 +1,6 @@
 -- The first record that refuses is the answer; where none does, the loop has passed them all.
 use Rattle.std.proofs.Common.{arith, ◌<◌, ℕ, ◌≡◌, slice_index_or, take}
 use Rattle.std.proofs.lemmas.List.{get_or-take}
-use Rattle.std.proofs.lemmas.Result.{err_from_is_err_and}
 use mathlib.Core.Path.{sym, ap, subst, ◌∙◌}
 use Rattle.sheet.specs.Paper.{gives, in_order}
 use Rattle.sheet.specs.Refusals.{record_says}
@@ -10,6 +9,7 @@ use Rattle.sheet.specs.declared.Job.{Job}
 use Rattle.sheet.specs.declared.Table.{Table}
 use Rattle.sheet.proofs.Order.{Refuses, in_order_none, in_order_clear, in_order_first}
 use Rattle.sheet.proofs.Refusals.{refusal_refuses}
+use Rattle.sheet.proofs.Residual.{err_is}
 use Rattle.sheet.proofs.check_records.Invariants.{record_is}
 use Rattle.sheet.proofs.check_records.Goals as goal
 
@@ -23,17 +23,11 @@ loop-k-init c = in_order_none _
 
 pub returns-in_err-check_record : goal.returns-in_err-check_record
 returns-in_err-check_record c =
-    let p = err_from_is_err_and c.from_residual.result c.from_residual.ensures.1 in
     let in_table : c.loop-k.k < c.args.t.now.count = omega arith in
     let said = c.in_err-check_record.ensures ∙ asked c.args.t.now c.loop-k.k in_table in
-    rw (p.1, p.2) (said ∙ sym (in_order_first (record_is c.args.t.now) c.loop-k.k c.args.t.now.count in_table c.loop-k.invariant (subst Refuses said (refusal_refuses _ _))))
+    rw (err_is _ c.from_residual.ensures.1) (said ∙ sym (in_order_first (record_is c.args.t.now) c.loop-k.k c.args.t.now.count in_table c.loop-k.invariant (subst Refuses said (refusal_refuses _ _))))
 
 pub loop-k-preserved : goal.loop-k-preserved
 loop-k-preserved c =
     let in_table : c.loop-k.k < c.args.t.now.count = omega arith in
     in_order_clear (record_is c.args.t.now) c.loop-k.k c.loop-k.invariant (sym (c.in_ok-check_record.ensures ∙ asked c.args.t.now c.loop-k.k in_table))
-
-pub returns : goal.returns
-returns c =
-    let at_end : c.loop-k.k ≡ c.args.t.now.count = omega arith in
-    sym (subst (λ (n : ℕ). in_order (record_is c.args.t.now) n ≡ gives tt) at_end c.loop-k.invariant)
