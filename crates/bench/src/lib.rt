@@ -9,6 +9,7 @@ ghost use Rattle.bench.specs.Promise.{interval_number, sums_number, ThereAndBack
 use demand::{Kind, Overload};
 use judge::{ClaimRefusal, PlanRefusal, Sums};
 use planner::Planned;
+use reader::SheetRead;
 
 // The numbers beside an interval's: a refusal's, and an undecided day's with its job 0.
 const REFUSED: u64 = 1 << 40;
@@ -23,8 +24,8 @@ const UNDECIDED: u64 = 1 << 41;
 pub extern "C" fn gishronek_there_and_back(bytes: &[u8], out: &mut [u8]) -> u64
     ensures { ThereAndBack bytes.now out.old result out.new }
 {
-    let reading = reader::read(bytes);
-    let written = writer::write(reading.table, reading.harvest, out);
+    let read = SheetRead::new(bytes);
+    let written = writer::write(read.table, read.harvest, out);
     written.map_or(0, |length| length as u64)
 }
 
@@ -48,8 +49,8 @@ fn interval_number(o: Overload) -> u64
 pub extern "C" fn gishronek_search(bytes: &[u8]) -> u64
     ensures { SearchesYielded bytes.now result }
 {
-    let reading = reader::read(bytes);
-    match demand::search(reading.table, reading.harvest) {
+    let read = SheetRead::new(bytes);
+    match demand::search(read.table, read.harvest) {
         Ok(Some(o)) => interval_number(o),
         Ok(None) => 0,
         Err(_) => REFUSED,
@@ -78,9 +79,9 @@ pub extern "C" fn gishronek_plan(bytes: &[u8], plan: &mut [u8]) -> u64
 pub extern "C" fn gishronek_first_step(bytes: &[u8]) -> u64
     ensures { FirstSteps bytes.now result }
 {
-    let reading = reader::read(bytes);
-    let start = slot_run::begin(reading.table, reading.harvest);
-    let stepped = slot_run::step(reading.table, reading.harvest, start.state);
+    let read = SheetRead::new(bytes);
+    let start = slot_run::begin(read.table, read.harvest);
+    let stepped = slot_run::step(read.table, read.harvest, start.state);
     u64::from(stepped.state.level)
 }
 

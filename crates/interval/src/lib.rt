@@ -22,6 +22,11 @@ impl fmt::Display for Kind {
     }
 }
 
+// Their numbers in document 01.
+pub const TIME: u64 = 0;
+
+pub const ENERGY: u64 = 1;
+
 // A number that no kind has.
 #[derive(Clone, Copy, Debug, PartialEq, Eq)]
 pub struct NoKind(pub u64);
@@ -31,11 +36,11 @@ impl TryFrom<u64> for Kind {
 
     ghost try_from_gives = { IsOfKind };
 
-    // The kind of that number in document 01, 0 for time and 1 for energy.
+    // The kind of that number.
     fn try_from(number: u64) -> Result<Kind, NoKind> {
         match number {
-            0 => Ok(Kind::Time),
-            1 => Ok(Kind::Energy),
+            TIME => Ok(Kind::Time),
+            ENERGY => Ok(Kind::Energy),
             _ => Err(NoKind(number)),
         }
     }

@@ -16,8 +16,10 @@ ghost use Rattle.judge.specs.Steps.{Names};
 ghost use Rattle.judge.specs.declared.PlanRefusal.{PlanRefusal};
 ghost use Rattle.judge.specs.declared.ClaimRefusal.{ClaimRefusal};
 
+pub use interval::{ENERGY, TIME};
 use interval::{Kind, NoKind};
 pub use plan_slots::{PlanFault, number, place};
+use reader::SheetRead;
 use sheet::{CheckedDay, Job, Refusal, Table};
 use std::error::Error;
 use std::fmt;
@@ -131,14 +133,9 @@ pub fn plan_on_table(t: Table, harvest: &[u8], plan: &[u8]) -> Result<(), PlanRe
 pub fn plan_on_sheet(bytes: &[u8], plan: &[u8]) -> Result<(), PlanRefusal>
     ensures { JudgesPlan (on_sheet bytes.now) plan.now result }
 {
-    let reading = reader::read(bytes);
-    judge_plan(reading.day(), plan)
+    let read = SheetRead::new(bytes);
+    judge_plan(read.day(), plan)
 }
-
-// The kinds of a claim, by their numbers.
-pub const TIME: u64 = 0;
-
-pub const ENERGY: u64 = 1;
 
 // The interval that a claim is for: a kind, and the slots `from` up to, not including, `to`.
 #[derive(Clone, Copy)]
@@ -257,6 +254,6 @@ pub fn claim_on_table(
 pub fn claim_on_sheet(bytes: &[u8], kind: u64, start: u64, end: u64) -> Result<Sums, ClaimRefusal>
     ensures { JudgesClaim (on_sheet bytes.now) kind start end result }
 {
-    let reading = reader::read(bytes);
-    judge_claim(reading.day(), kind, start, end)
+    let read = SheetRead::new(bytes);
+    judge_claim(read.day(), kind, start, end)
 }

@@ -65,13 +65,12 @@ struct Claimed(Result<Sums, ClaimRefusal>);
 
 impl fmt::Display for Claimed {
     fn fmt<W: fmt::Write>(&self, f: &mut fmt::Formatter<W>) -> fmt::Result {
+        let number = judge::claim_number(self.0);
         match self.0 {
             Ok(sums) => write!(f, "accepted {sums}"),
             Err(ClaimRefusal::HandedIn(why)) => write!(f, "{}", Refused(why)),
-            Err(ClaimRefusal::NoInterval) => write!(f, "refused {}", judge::NO_INTERVAL),
-            Err(ClaimRefusal::NotOverloaded(sums)) => {
-                write!(f, "refused {} {sums}", judge::NOT_OVERLOADED)
-            }
+            Err(ClaimRefusal::NoInterval) => write!(f, "refused {number}"),
+            Err(ClaimRefusal::NotOverloaded(sums)) => write!(f, "refused {number} {sums}"),
         }
     }
 }
@@ -102,13 +101,14 @@ fn claim_on_table(payload: &[u8], out: &mut Line<'_>) -> fmt::Result {
 }
 
 // Makes the call of a request of these kinds, whose payload has its kind's parts, and puts its line into
-// `out`. Nothing is made or put there where the kind is another.
-pub fn line(kind: u8, payload: &[u8], out: &mut Line<'_>) -> Option<fmt::Result> {
+// `out`. Nothing is made or put there where the kind is another. (A `Line` takes
+// whatever is written to it.)
+pub fn line(kind: u8, payload: &[u8], out: &mut Line<'_>) -> Option<()> {
     match kind {
-        b'J' => Some(plan_on_sheet(payload, out)),
-        b'K' => Some(plan_on_table(payload, out)),
-        b'I' => Some(claim_on_sheet(payload, out)),
-        b'L' => Some(claim_on_table(payload, out)),
+        b'J' => plan_on_sheet(payload, out).ok(),
+        b'K' => plan_on_table(payload, out).ok(),
+        b'I' => claim_on_sheet(payload, out).ok(),
+        b'L' => claim_on_table(payload, out).ok(),
         _ => None,
     }
 }

@@ -3,6 +3,7 @@
 
 use planner::{Planned, PlannerRefusal};
 use print::Output;
+use reader::SheetRead;
 use sheet::CheckedDay;
 use slot_run::{Decision, StepResult};
 use std::fmt;
@@ -79,8 +80,8 @@ fn print_table(day: CheckedDay) -> fmt::Result {
 
 // Prints the listing of the day that stands in a sheet: of a sheet that is refused the refusal's number.
 fn print_sheet(bytes: &[u8]) -> fmt::Result {
-    let reading = reader::read(bytes);
-    match reading.day() {
+    let read = SheetRead::new(bytes);
+    match read.day() {
         Ok(day) => print_table(day),
         Err(why) => writeln!(Output, "refused {}", sheet::number(why)),
     }

@@ -61,12 +61,12 @@ fn plan_table(payload: &[u8], space: &mut [u8], out: &mut Line<'_>) -> fmt::Resu
 
 // Makes the call of a request of these kinds, whose payload has its kind's parts, and puts its line into
 // `out`; the bytes of a plan buffer that the call is lent stand in `space`. Nothing is made or put there
-// where the kind is another.
-pub fn line(kind: u8, payload: &[u8], space: &mut [u8], out: &mut Line<'_>) -> Option<fmt::Result> {
+// where the kind is another. (A `Line` takes whatever is written to it.)
+pub fn line(kind: u8, payload: &[u8], space: &mut [u8], out: &mut Line<'_>) -> Option<()> {
     match kind {
-        b'S' => Some(search(payload, out)),
-        b'P' => Some(plan_sheet(payload, space, out)),
-        b'Q' => Some(plan_table(payload, space, out)),
+        b'S' => search(payload, out).ok(),
+        b'P' => plan_sheet(payload, space, out).ok(),
+        b'Q' => plan_table(payload, space, out).ok(),
         _ => None,
     }
 }

@@ -8,6 +8,7 @@ ghost use Rattle.planner.specs.Promise.{Plans};
 ghost use Rattle.planner.specs.declared.PlannerRefusal.{PlannerRefusal};
 
 use demand::Overload;
+use reader::SheetRead;
 use sheet::{CheckedDay, Refusal, Table};
 use std::error::Error;
 use std::fmt;
@@ -100,6 +101,6 @@ pub fn plan_table(t: Table, harvest: &[u8], plan: &mut [u8]) -> Result<Planned, 
 pub fn plan_sheet(bytes: &[u8], plan: &mut [u8]) -> Result<Planned, PlannerRefusal>
     ensures { Plans (on_sheet bytes.now) plan.old result plan.new }
 {
-    let reading = reader::read(bytes);
-    plan_day(reading.day(), plan)
+    let read = SheetRead::new(bytes);
+    plan_day(read.day(), plan)
 }

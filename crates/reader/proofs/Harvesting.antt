@@ -21,8 +21,8 @@ use Rattle.sheet.specs.Checked.{Checks}
 use Rattle.sheet.proofs.Order.{Refuses, gives_or_refuses}
 use Rattle.sheet.proofs.Refusals.{refusal_refuses, says_gives}
 use Rattle.sheet.proofs.Stated.{sheet_leaves}
-use Rattle.reader.specs.Promise.{table_read, harvest_read, Reads, harvest_behind, HandsOn}
-use Rattle.reader.specs.declared.reading.Reading.{Reading}
+use Rattle.reader.specs.Promise.{table_read, harvest_read, ReadsSheet, harvest_behind, HandsOn}
+use Rattle.reader.specs.declared.sheet_read.SheetRead.{SheetRead}
 use Rattle.reader.proofs.Yielding.{table_given, table_refused, harvest_given, harvest_refused}
 
 of_table : List ℕ → Table → List ℕ
@@ -45,7 +45,7 @@ own_stretch s = ⊎_elim (given s) (refused s) (gives_or_refuses (sheet_says s))
 
 -- ---- the reading of a sheet, from what the records told
 
-answers : (s : List ℕ) (o : Result (Unit {0}) Refusal) (t : Table) → ReadsInto s o t → (outcome_says o ≡ sheet_says s) × (t ≡ table_read s)
+pub answers : (s : List ℕ) (o : Result (Unit {0}) Refusal) (t : Table) → ReadsInto s o t → (outcome_says o ≡ sheet_says s) × (t ≡ table_read s)
 answers s (Ok leave) t yields = (sym yields.0, yields.1 ∙ sym (table_given s yields.0))
 answers s (Err why) t yields = (sym yields.0, yields.1 ∙ sym (table_refused s (subst Refuses (sym yields.0) (refusal_refuses _ why))))
 
@@ -68,7 +68,7 @@ module _ (s : List ℕ) (o : Result (Unit {0}) Refusal) (t : Table) (yields : Re
 
 -- ---- what a caller has who has read the sheet: its refusal, or the day that stands in it
 
-module _ (s : List ℕ) (r : Reading) (read : Reads s r) where
+module _ (s : List ℕ) (r : SheetRead) (read : ReadsSheet s r) where
   pub read_refuses : (why : Refusal) → r.outcome ≡ Err why → check_says (on_sheet s) ≡ refusal_says why
   read_refuses why told = sym read.answer ∙ ap outcome_says told
 

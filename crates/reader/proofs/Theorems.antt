@@ -10,12 +10,14 @@ use Rattle.sheet.specs.declared.Refusal.{Refusal}
 use Rattle.sheet.proofs.HandedIn.{outcome_accepted_exactly, outcome_refused_exactly}
 use Rattle.sheet.proofs.Refusals.{outcome_one}
 use Rattle.reader.specs.Promise.{Reads}
-use Rattle.reader.specs.declared.reading.Reading.{Reading}
+use Rattle.reader.specs.declared.Reading.{Reading}
 
--- any two results that the promise allows are equal: the answers, the tables, and the bytes of the harvests
-pub one_reading : {s : List ℕ} {r q : Reading} → Reads s r → Reads s q → (r.outcome ≡ q.outcome) × (r.table ≡ q.table) × (r.harvest.now ≡ q.harvest.now)
+-- any two results that the promise allows are equal
+pub one_reading : {s : List ℕ} {r q : Reading} → Reads s r → Reads s q → r ≡ q
 one_reading {r = r} {q = q} a b =
-    (outcome_one r.outcome q.outcome (a.answer ∙ sym b.answer), a.table ∙ sym b.table, a.harvest ∙ sym b.harvest)
+    let outcome : r.outcome ≡ q.outcome = outcome_one r.outcome q.outcome (a.answer ∙ sym b.answer) in
+    let table : r.table ≡ q.table = a.table ∙ sym b.table in
+    λ i. record { outcome = outcome i; table = table i }
 
 module _ (s : List ℕ) (r : Reading) (read : Reads s r) where
   -- a sheet is accepted exactly when it is well formed

@@ -8,7 +8,8 @@ use Rattle.sheet.specs.Sheet.{record_length, sheet_says, table_in, harvest_in}
 use Rattle.sheet.specs.declared.Refusal.{Refusal}
 use Rattle.sheet.specs.declared.Table.{Table}
 use Rattle.sheet.specs.declared.day.CheckedDay.{CheckedDay}
-use Rattle.reader.specs.declared.reading.Reading.{Reading}
+use Rattle.reader.specs.declared.Reading.{Reading}
+use Rattle.reader.specs.declared.sheet_read.SheetRead.{SheetRead}
 
 -- "the table then has no jobs, slots 0, capacity 0"
 abbrev pub no_table : Table
@@ -22,14 +23,19 @@ table_read s = where_given (sheet_says s) (table_in s) no_table
 unfoldable pub harvest_read : List ℕ → List ℕ
 harvest_read s = where_given (sheet_says s) (harvest_in s) []
 
--- the answer, the table, and the harvest
+-- the answer, and the table
 pub record Reads (s : List ℕ) (r : Reading) : Type 0 where
+  pub answer : outcome_says r.outcome ≡ sheet_says s
+  pub table : r.table ≡ table_read s
+
+-- and the harvest
+pub record ReadsSheet (s : List ℕ) (r : SheetRead) : Type 0 where
   pub answer : outcome_says r.outcome ≡ sheet_says s
   pub table : r.table ≡ table_read s
   pub harvest : r.harvest.now ≡ harvest_read s
 
--- the day of a reading that was not refused; or its refusal
-abbrev pub HandsOn : Reading → Result CheckedDay Refusal → Type 0
+-- the day of a sheet that was read and not refused; or its refusal
+abbrev pub HandsOn : SheetRead → Result CheckedDay Refusal → Type 0
 HandsOn r (Ok d) = (r.outcome ≡ Ok tt) × (the_day d ≡ day_of r.table r.harvest.now)
 HandsOn r (Err why) = r.outcome ≡ Err why
 

@@ -2,7 +2,7 @@
 // number, and the harvest as that stretch of the caller's own bytes.
 #![tactic(auto)]
 
-mod reading;
+mod sheet_read;
 
 ghost use Rattle.std.specs.Prelude.{◌≡◌, ◌+◌, ◌*◌, ◌-◌, ◌≤◌, ◌<◌, length, replicate};
 ghost use Rattle.sheet.specs.Table.{most_jobs};
@@ -10,8 +10,15 @@ ghost use Rattle.sheet.specs.Sheet.{u16_at, job_in, jobs_in, slots_in, mark_faul
 ghost use Rattle.reader.specs.Steps.{ReadsTrailer, Fills, ReadsInto};
 ghost use Rattle.reader.specs.Promise.{no_table, harvest_read, Reads, harvest_behind};
 
-pub use reading::Reading;
 use sheet::{Job, Refusal, Table};
+pub use sheet_read::SheetRead;
+
+// What reading a sheet yields. Of a refused sheet the table has no jobs, slots 0 and capacity 0.
+#[derive(Clone, Copy)]
+pub struct Reading {
+    pub outcome: Result<(), Refusal>,
+    pub table: Table,
+}
 
 // The number in the two bytes from `at` on, the lower first.
 fn u16_at(bytes: &[u8], at: usize) -> u16
@@ -150,19 +157,14 @@ fn read_into(bytes: &[u8], table: &mut Table) -> Result<(), Refusal>
     outcome
 }
 
-// Reads a sheet, from any bytes at all: the table and the harvest, or the refusal, 1 to 6. No byte of the
-// harvest is copied.
-pub fn read(bytes: &[u8]) -> Reading<'_>
+// Reads a sheet, from any bytes at all: the table, or the refusal, 1 to 6. It keeps nothing of the
+// harvest: `harvest` hands that back as a stretch of the sheet itself.
+pub fn read(bytes: &[u8]) -> Reading
     ensures { Reads bytes.now result }
 {
     let mut table = no_table();
     let outcome = read_into(bytes, &mut table);
-    let harvest = stretch(bytes, table.count, table.slots);
-    Reading {
-        outcome,
-        table,
-        harvest,
-    }
+    Reading { outcome, table }
 }
 
 // The stretch of `slots` bytes behind `count` records, which is the harvest where a sheet's own
@@ -183,9 +185,9 @@ pub fn stretch(bytes: &[u8], count: usize, slots: u16) -> &[u8]
 }
 
 // The harvest of a sheet, as that stretch of the caller's own bytes; an empty stretch where the
-// sheet is refused. Whoever has read the sheet already has it in the reading.
+// sheet is refused. Whoever has read the sheet already asks `stretch` instead, or keeps a `SheetRead`.
 pub fn harvest(bytes: &[u8]) -> &[u8]
     ensures { result.now ≡ harvest_read bytes.now }
 {
-    read(bytes).harvest
+    SheetRead::new(bytes).harvest
 }

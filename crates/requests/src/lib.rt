@@ -34,13 +34,6 @@ const STATE: usize = LEFT_FROM + SHORT * sheet::MOST_JOBS;
 // The bytes of a claim: its kind, its start and its end.
 const CLAIM: usize = 3 * LONG;
 
-const NO_JOB: Job = Job {
-    release: 0,
-    deadline: 0,
-    wanted: 0,
-    energy: 0,
-};
-
 // So many bytes from a place on; zeros where the bytes do not hold them all.
 fn array_at<const N: usize>(bytes: &[u8], at: usize) -> [u8; N] {
     bytes
@@ -138,7 +131,7 @@ fn jobs_in(payload: &[u8], given: usize) -> [Job; sheet::MOST_JOBS] {
         if k < given {
             job_at(payload, JOBS_FROM + JOB * k)
         } else {
-            NO_JOB
+            Job::default()
         }
     })
 }

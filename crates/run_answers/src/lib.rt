@@ -69,11 +69,12 @@ fn step(payload: &[u8], out: &mut Line<'_>) -> fmt::Result {
 }
 
 // Makes the call of a request of these kinds, whose payload has its kind's parts, and puts its line into
-// `out`. Nothing is made or put there where the kind is another.
-pub fn line(kind: u8, payload: &[u8], out: &mut Line<'_>) -> Option<fmt::Result> {
+// `out`. Nothing is made or put there where the kind is another. (A `Line` takes
+// whatever is written to it.)
+pub fn line(kind: u8, payload: &[u8], out: &mut Line<'_>) -> Option<()> {
     match kind {
-        b'B' => Some(begin(payload, out)),
-        b'N' => Some(step(payload, out)),
+        b'B' => begin(payload, out).ok(),
+        b'N' => step(payload, out).ok(),
         _ => None,
     }
 }

@@ -67,14 +67,14 @@ fn write(payload: &[u8], space: &mut [u8], out: &mut Line<'_>) -> fmt::Result {
 
 // Makes the call of a request of these kinds, whose payload has its kind's parts, and puts its line into
 // `out`; the bytes of a buffer that the call is lent stand in `space`. Nothing is made or put there where
-// the kind is another.
-pub fn line(kind: u8, payload: &[u8], space: &mut [u8], out: &mut Line<'_>) -> Option<fmt::Result> {
+// the kind is another. (A `Line` takes whatever is written to it.)
+pub fn line(kind: u8, payload: &[u8], space: &mut [u8], out: &mut Line<'_>) -> Option<()> {
     match kind {
-        b'C' => Some(check(payload, out)),
-        b'R' => Some(read(payload, out)),
-        b'H' => Some(harvest(payload, out)),
-        b'X' => Some(stretch(payload, out)),
-        b'W' => Some(write(payload, space, out)),
+        b'C' => check(payload, out).ok(),
+        b'R' => read(payload, out).ok(),
+        b'H' => harvest(payload, out).ok(),
+        b'X' => stretch(payload, out).ok(),
+        b'W' => write(payload, space, out).ok(),
         _ => None,
     }
 }

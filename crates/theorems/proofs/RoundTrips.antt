@@ -25,7 +25,7 @@ use Rattle.sheet.proofs.Parts.{records_of, records_length, sheet_length_lem}
 use Rattle.sheet.proofs.Refusals.{outcome_one, says_gives}
 use Rattle.sheet.proofs.Stated.{job_in_table, sheet_leaves}
 use Rattle.reader.specs.Promise.{harvest_read, Reads}
-use Rattle.reader.specs.declared.reading.Reading.{Reading}
+use Rattle.reader.specs.declared.Reading.{Reading}
 use Rattle.reader.proofs.Yielding.{table_given, harvest_given}
 use Rattle.writer.specs.Promise.{no_room, length_for, write_says, buffer_written, written_says, Writes}
 use Rattle.writer.specs.declared.WriteRefusal.{WriteRefusal}

@@ -5,7 +5,6 @@
 ghost use Rattle.std.specs.Prelude.{◌≤◌};
 
 use lines::Line;
-use std::fmt;
 use std::fmt::Write;
 
 const STANDARD_INPUT: i32 = 0;
@@ -23,12 +22,12 @@ const LINE: usize = 65536;
 
 // Makes the call of a request whose payload has its kind's parts, and puts its line into `out`. Each of
 // the four that answer puts nothing there for a kind of another.
-fn line(kind: u8, payload: &[u8], space: &mut [u8], out: &mut Line<'_>) -> fmt::Result {
+fn line(kind: u8, payload: &[u8], space: &mut [u8], out: &mut Line<'_>) -> Option<()> {
     sheet_answers::line(kind, payload, space, out)
         .or_else(|| run_answers::line(kind, payload, out))
         .or_else(|| plan_answers::line(kind, payload, space, out))
         .or_else(|| judge_answers::line(kind, payload, out))
-        .unwrap_or_else(|| write!(out, "unknown"))
+        .or_else(|| write!(out, "unknown").ok())
 }
 
 // Answers a request.
@@ -42,7 +41,7 @@ fn answer(kind: u8, payload: &[u8], space: &mut [u8], out: &mut [u8]) {
         return;
     }
     let mut out = Line::new(out);
-    let _ = line(kind, payload, space, &mut out);
+    line(kind, payload, space, &mut out);
     out.print();
 }
 

@@ -1,6 +1,6 @@
--- The day of the reading is that of the sheet.
+-- The day of the sheet that was read is the sheet's.
 use Rattle.reader.proofs.Harvesting.{hands_on_sheet}
 use Rattle.judge.proofs.claim_on_sheet.Goals as goal
 
 pub returns : goal.returns
-returns c = c.judge_claim.ensures _ (hands_on_sheet _ _ c.read-reading.ensures _ c.day.ensures)
+returns c = c.judge_claim.ensures _ (hands_on_sheet _ _ c.new-read.ensures _ c.day.ensures)
