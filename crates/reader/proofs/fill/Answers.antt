@@ -3,7 +3,7 @@ use Rattle.std.proofs.Common.{arith}
 use Rattle.sheet.proofs.Residual.{err_is}
 use mathlib.Core.Path.{sym}
 use borrow.Author.Rules.{rules}
-use Rattle.reader.proofs.Records.{read_none, read_more, record_refuses, records_good}
+use Rattle.reader.proofs.Records.{read_none, read_more, record_refuses}
 use Rattle.reader.proofs.fill.Goals as goal
 
 pub loop-k-init : goal.loop-k-init
