@@ -9,7 +9,7 @@ use native.Mathlib.Numerals.{add-one}
 use native.Mathlib.Omega.{arith}
 use lib.ListN.{length, get_or}
 use borrow.Author.Tests.{lt-ltb, le-ltb}
-use Rattle.sheet.proofs.Words.{and_true}
+use Rattle.std.proofs.lemmas.Bool.{and_from}
 use Rattle.evidence.specs.Decimal.{largest, zero_digit, is_digit, are_digits, written, number_in}
 use Rattle.std.specs.Prelude.{Some, None}
 
@@ -43,7 +43,7 @@ module _ (text : List ℕ) where
 
   pub digits_more : (i : ℕ) (b : Bool) → are_digits text i ≡ true → b ≡ is_digit (get_or text i 0) → b ≡ true → are_digits text (i + 1) ≡ true
   unfolding are_digits
-  digits_more i b before is told = ap (are_digits text) (add-one i) ∙ and_true (are_digits text i) (is_digit (get_or text i 0)) before (sym is ∙ told)
+  digits_more i b before is told = ap (are_digits text) (add-one i) ∙ and_from (are_digits text i) (is_digit (get_or text i 0)) before (sym is ∙ told)
 
   pub written_more : (i number next : ℕ) → number ≡ min largest (written text i) → next ≡ min largest (10 * number + (get_or text i 0 - zero_digit))
       → next ≡ min largest (written text (i + 1))

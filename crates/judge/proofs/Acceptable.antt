@@ -10,11 +10,11 @@ use native.Mathlib.Omega.{arith}
 use lib.Dec.{leb}
 use lib.ListN.{length}
 use borrow.Author.Tests.{lt-ltb, le-leb, ltb-true, leb-true}
+use Rattle.std.proofs.lemmas.Bool.{and_from, and_parts}
 use Rattle.sheet.specs.Paper.{gives}
 use Rattle.sheet.specs.Sums.{harvest_at}
 use Rattle.sheet.specs.Table.{idle_byte, job_of, Day}
 use Rattle.sheet.proofs.Stated.{below, differs}
-use Rattle.sheet.proofs.Words.{and_left, and_right, and_true}
 use Rattle.plan_slots.specs.Numbers.{fault_says}
 use Rattle.plan_slots.specs.Plan.{byte_of, names_job, slots_got, level_at}
 use Rattle.plan_slots.specs.Slots.{outside_window, has_all_slots, lacks_charge}
@@ -37,13 +37,13 @@ module _ (d : Day) (plan : List ℕ) where
   of_its_job i test P words = (
     (λ a. (
       byte_of plan i,
-      (a.0, ltb-true _ _ (and_left (names_job d plan i) _ a.1), refl),
-      (words (byte_of plan i)).0 (and_right (names_job d plan i) _ a.1),
+      (a.0, ltb-true _ _ (and_parts (names_job d plan i) _ a.1).0, refl),
+      (words (byte_of plan i)).0 (and_parts (names_job d plan i) _ a.1).1,
     )),
     (λ w.
         let named = w.1.2 in (
           w.1.0,
-          and_true (names_job d plan i) (test (byte_of plan i)) (lt-ltb _ _ (subst (λ (n : ℕ). n < d.table.count) (sym named) w.1.1))
+          and_from (names_job d plan i) (test (byte_of plan i)) (lt-ltb _ _ (subst (λ (n : ℕ). n < d.table.count) (sym named) w.1.1))
               (ap test named ∙ (words w.0).1 w.2),
         )),
   )

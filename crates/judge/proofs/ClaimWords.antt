@@ -8,11 +8,11 @@ use native.Mathlib.Decide.{dec_lt, dec_le, ℕ_discrete}
 use native.Mathlib.Omega.{arith}
 use lib.Dec.{ltb, eqb}
 use borrow.Author.Tests.{lt-ltb, le-ltb, ltb-true, ltb-false, eq-eqb, ne_eqb, not-true, not-false}
+use Rattle.std.proofs.lemmas.Bool.{or_from, or_parts}
 use Rattle.sheet.specs.Paper.{Check, gives, ◌when◌, ◌else◌}
 use Rattle.sheet.specs.Table.{Day}
 use Rattle.sheet.proofs.Exactly.{either, never_both}
 use Rattle.sheet.proofs.Order.{Refuses}
-use Rattle.sheet.proofs.Words.{or_left, or_false}
 use Rattle.interval.specs.Demand.{kind_number, overloaded}
 use Rattle.interval.specs.declared.Kind.{Kind}
 use Rattle.interval.specs.declared.Kind.TheVariants.{Time, Energy}
@@ -132,11 +132,11 @@ interval_words slots number from to = (
   (λ e.
       let days = claim_in_day slots number from to e in
       let kind = not (eqb number 0 || eqb number 1) in
-      let is = not-false _ (or_left kind (not (ltb from to)) (or_left (kind || not (ltb from to)) (ltb slots to) e)) in
+      let is = not-false _ (or_parts kind (not (ltb from to)) (or_parts (kind || not (ltb from to)) (ltb slots to) e).0).0 in
       record { a_kind = small number is; in_order = days.0; in_day = days.1 }),
   (λ i.
-      or_false _ _
-      (or_false _ _ (ap not (is_kind number i.a_kind)) (ap not (lt-ltb from to i.in_order)))
+      or_from _ _
+      (or_from _ _ (ap not (is_kind number i.a_kind)) (ap not (lt-ltb from to i.in_order)))
       (le-ltb slots to i.in_day)),
 )
   where

@@ -6,6 +6,7 @@ use mathlib.Core.Bool.{true, false, not, ◌||◌}
 use lib.Dec.{ltb, eqb}
 use lib.ListN.{length}
 use borrow.Author.Tests.{lt-ltb, le-ltb, eq-eqb, ne_eqb, ltb-true, ltb-false, not-false}
+use Rattle.std.proofs.lemmas.Bool.{or_parts}
 use Rattle.sheet.specs.HandedIn.{HandedIn, check_says, day_in}
 use Rattle.sheet.specs.Paper.{gives, ◌when◌}
 use Rattle.std.specs.Prelude.{Result, Ok, Err}
@@ -15,7 +16,6 @@ use Rattle.sheet.specs.Table.{Day}
 use Rattle.sheet.specs.declared.Refusal.{Refusal}
 use Rattle.sheet.proofs.HandedIn.{hands_on, past_check}
 use Rattle.sheet.proofs.Refusals.{refusal_gives_nothing}
-use Rattle.sheet.proofs.Words.{or_left, or_right}
 use Rattle.plan_slots.specs.Slots.{slots_say}
 use Rattle.plan_slots.specs.declared.PlanFault.TheVariants.{WrongLength}
 use Rattle.interval.specs.Demand.{kind_number, demand_of, supply_of, overloaded}
@@ -80,8 +80,8 @@ unfolding claim_fault
 claim_in_day slots number from to e =
     let kind = not (eqb number (kind_number Time) || eqb number (kind_number Energy)) in
     let order = not (ltb from to) in (
-      ltb-true from to (not-false _ (or_right kind order (or_left (kind || order) (ltb slots to) e))),
-      ltb-false slots to (or_right (kind || order) (ltb slots to) e),
+      ltb-true from to (not-false _ (or_parts kind order (or_parts (kind || order) (ltb slots to) e).0).1),
+      ltb-false slots to (or_parts (kind || order) (ltb slots to) e).1,
     )
 
 module _ (h : HandedIn) (d : Day) (checked : (check_says h ≡ gives tt) × (d ≡ day_in h)) (number from to : ℕ) where

@@ -8,7 +8,7 @@ use lib.ListN.{length}
 use borrow.Author.Tests.{le-leb}
 use Rattle.sheet.specs.HandedIn.{on_sheet, check_says, day_in}
 use Rattle.sheet.specs.Paper.{gives}
-use Rattle.sheet.specs.Refusals.{refusal_says, outcome_says}
+use Rattle.sheet.specs.Refusals.{outcome_says}
 use Rattle.sheet.specs.Sheet.{record_length, sheet_says, table_in, jobs_in, slots_in, harvest_in}
 use Rattle.sheet.specs.Table.{day_of}
 use Rattle.sheet.specs.WellFormed.{GoodDay}
@@ -69,9 +69,6 @@ module _ (s : List ℕ) (o : Result (Unit {0}) Refusal) (t : Table) (yields : Re
 -- ---- what a caller has who has read the sheet: its refusal, or the day that stands in it
 
 module _ (s : List ℕ) (r : SheetRead) (read : ReadsSheet s r) where
-  pub read_refuses : (why : Refusal) → r.outcome ≡ Err why → check_says (on_sheet s) ≡ refusal_says why
-  read_refuses why told = sym read.answer ∙ ap outcome_says told
-
   module _ (told : r.outcome ≡ Ok tt) where
     pub read_leaves : check_says (on_sheet s) ≡ gives tt
     read_leaves = says_gives r.outcome (sheet_says s) told read.answer
@@ -85,4 +82,4 @@ module _ (s : List ℕ) (r : SheetRead) (read : ReadsSheet s r) where
   -- a day that the reading hands on is that of the sheet, and a refusal its refusal
   pub hands_on_sheet : (d : Result CheckedDay Refusal) → HandsOn r d → Checks (on_sheet s) d
   hands_on_sheet (Ok d) on = (read_leaves on.0, on.1 ∙ read_day on.0)
-  hands_on_sheet (Err why) on = read_refuses why on
+  hands_on_sheet (Err why) on = sym read.answer ∙ ap outcome_says on

@@ -101,7 +101,7 @@ module _ (s : List ℕ) (t : Trailer) (numbers : Decided s t) (k : ℕ) (places 
       let e = record_said s t.slots k job j (refusal_says why) said in
       numbers.says ∙ in_order_first (record_in s t.slots) k t.count h to.clear (subst Refuses e (refusal_refuses _ why)) ∙ sym e
 
-  -- there are no more
+  -- there are no more: the check finds this by itself where `fill` returns
   pub records_good : k ≡ t.count → Fills s (Ok tt) (record { jobs = places; count = t.count; slots = t.slots; capacity = t.capacity })
   records_good at_end =
       let clear : in_order (record_in s t.slots) t.count ≡ gives tt = rw at_end at to.clear in

@@ -8,6 +8,7 @@ use native.Mathlib.Omega.{arith}
 use lib.Dec.{ltb, leb}
 use lib.ListN.{get_or, set}
 use borrow.Author.Tests.{lt-ltb, le-ltb, ltb-true, ltb-false}
+use Rattle.std.proofs.lemmas.Bool.{and_parts}
 use Rattle.std.specs.Prelude.{Option, Some, None}
 use Rattle.sheet.specs.Table.{job_of, Day}
 use Rattle.choice.specs.declared.State.{State}
@@ -20,7 +21,6 @@ use Rattle.rules.specs.declared.IdleWhy.{IdleWhy}
 use Rattle.rules.specs.declared.IdleWhy.TheVariants.{Empty, Saving}
 use Rattle.rules.specs.declared.Decision.TheVariants.{Busy, Idle}
 use Rattle.sheet.proofs.Exactly.{either}
-use Rattle.sheet.proofs.Words.{and_right}
 use Rattle.choice.proofs.Choosing.{chosen_is}
 
 -- a test that holds gives the first, and one that does not the second
@@ -112,7 +112,7 @@ unfolding ready
 busy_facts d s r k e =
     let b = busy_is_chosen d s r k e in
     let c = chosen_is d s k b.0 in
-    (c.below, ltb-true 0 (left_of s k) (and_right (leb (job_of d.table k).release s.slot && ltb s.slot (deadline_of d k)) (ltb 0 (left_of s k)) c.passes), b.1)
+    (c.below, ltb-true 0 (left_of s k) (and_parts (leb (job_of d.table k).release s.slot && ltb s.slot (deadline_of d k)) (ltb 0 (left_of s k)) c.passes).1, b.1)
 
 -- ---- decisions
 

@@ -8,16 +8,13 @@ use native.Mathlib.Decide.{dec_lt}
 use native.Mathlib.Omega.{arith}
 use lib.Dec.{eqb}
 use borrow.Author.Tests.{eq-eqb, ne_eqb}
+pub use Rattle.std.proofs.lemmas.Bool.{cases_Bool as either}
 use Rattle.sheet.specs.Paper.{Check, gives, in_order}
 use Rattle.sheet.specs.Refusals.{Faults, record_says, in_turn, refusal_says}
 use Rattle.sheet.specs.WellFormed.{turn_of, GivenFirst}
 use Rattle.sheet.specs.declared.Refusal.{Refusal}
 use Rattle.sheet.specs.declared.Refusal.TheVariants.{Short, Mark, Counts, Layout, Window, Work}
 use Rattle.sheet.proofs.Refusals.{refusal_one, own_given}
-
-pub either : (b : Bool) → (b ≡ true) ⊎ (b ≡ false)
-either true = inl refl
-either false = inr refl
 
 pub never_both : {b : Bool} → b ≡ true → b ≡ false → ⊥
 never_both p q = true≢false (sym p ∙ q)

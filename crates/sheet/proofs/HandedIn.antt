@@ -1,19 +1,17 @@
 -- What was handed in, once for a sheet and for a table with its harvest: what its check says in words, and what that makes of a call's answer.
 use Prim.Native.Nat.{ℕ}
-use mathlib.Core.Path.{◌≡◌, refl, sym, ap, ◌∙◌, subst}
+use mathlib.Core.Path.{◌≡◌, refl, sym, ap, ◌∙◌}
 use mathlib.Core.Bool.{Bool, true, false, false≢true}
-use mathlib.Core.List.{List}
 use mathlib.Core.Logic.Iff
 use mathlib.Core.Logic.{◌↔◌, ◌⊎◌, ⊎_elim}
 use Rattle.sheet.specs.Paper.{Paper, Check, gives, refuses, ◌when◌, ◌else◌}
 use Rattle.sheet.specs.HandedIn.{HandedIn, on_sheet, on_table, check_says, day_in, Sound, States}
 use Rattle.sheet.specs.Refusals.{refusal_says, outcome_says}
 use Rattle.sheet.specs.Sheet.{sheet_faults, sheet_says}
-use Rattle.sheet.specs.Table.{Day, day_of, table_faults, table_says}
+use Rattle.sheet.specs.Table.{day_of, table_faults, table_says}
 use Rattle.sheet.specs.WellFormed.{GoodDay, GivenFirst}
 use Rattle.std.specs.Prelude.{Result, Ok, Err}
 use Rattle.sheet.specs.declared.Refusal.{Refusal}
-use Rattle.sheet.specs.declared.Table.{Table}
 use Rattle.sheet.proofs.Exactly.{leave_or_refusal}
 use Rattle.sheet.proofs.Order.{else_goes_on}
 use Rattle.sheet.proofs.Refusals.{Own, own_number, sheet_has, refusal_one, refusal_stays, outcome_exactly}

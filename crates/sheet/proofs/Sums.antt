@@ -8,6 +8,7 @@ use native.Mathlib.Nat.{not-suc-le-zero, mul-suc, add_assoc}
 use native.Mathlib.Numerals.{add-one}
 use native.Mathlib.Decide.{dec_lt}
 use native.Mathlib.Omega.{arith}
+use Rattle.std.proofs.lemmas.Bool.{or_left, or_right}
 use Rattle.sheet.specs.Sums.{total, some, harvest_at, harvest_of}
 use Rattle.sheet.proofs.Exactly.{either, never_both}
 
@@ -66,21 +67,14 @@ pub some_more : (test : ℕ → Bool) (n : ℕ) → some test (n + 1) ≡ (some 
 unfolding some
 some_more test n = ap (some test) (add-one n)
 
-or_left_true : (a b : Bool) → a ≡ true → (a || b) ≡ true
-or_left_true a b e = ap (λ (x : Bool). x || b) e
-
-or_right_true : (a b : Bool) → b ≡ true → (a || b) ≡ true
-or_right_true true b e = refl
-or_right_true false b e = e
-
 -- one that passes
 pub some_here : (test : ℕ → Bool) (n k : ℕ) → k < n → test k ≡ true → some test n ≡ true
 unfolding some
 some_here test zero k h e = absurd (not-suc-le-zero h)
 some_here test (suc n) k h e =
     elim (dec_lt k n) [
-      | yes l ↦ or_left_true (some test n) (test n) (some_here test n k l e)
-      | no l ↦ let same : k ≡ n = omega arith in or_right_true (some test n) (test n) (ap test (sym same) ∙ e)
+      | yes l ↦ or_left (some test n) (test n) (some_here test n k l e)
+      | no l ↦ let same : k ≡ n = omega arith in or_right (some test n) (test n) (ap test (sym same) ∙ e)
     ]
 
 -- which one passes

@@ -8,12 +8,12 @@ use native.Mathlib.Omega.{arith}
 use lib.Dec.{ltb}
 use lib.ListN.{get_or}
 use borrow.Author.Tests.{ltb-true}
+use Rattle.std.proofs.lemmas.Bool.{and_parts}
 use Rattle.std.proofs.Math.Bridge.{le_prop}
 use Rattle.sheet.specs.Table.{most_jobs, job_of, cost_of, Day, day_of}
 use Rattle.sheet.specs.Sums.{harvest_at, harvest_of}
 use Rattle.sheet.specs.WellFormed.{GoodJob}
 use Rattle.sheet.specs.declared.Table.{Table}
-use Rattle.sheet.proofs.Words.{and_left}
 use Rattle.totals.specs.Totals.{Summed}
 use Rattle.totals.proofs.Entries.{harvest_read_lem}
 use Rattle.columns.specs.Columns.{ColumnsOf}
@@ -54,7 +54,7 @@ pub harvest_told : (d : Day) (slot : Slot) → IsOf d slot → (k : ℕ) → k <
 harvest_told d slot w k below b comes =
     let job = reads d slot w k below in
     let good = job.job in
-    let later : slot.state.now.slot < get_or slot.jobs.now k 0 = ltb-true _ _ (and_left _ b comes) in
+    let later : slot.state.now.slot < get_or slot.jobs.now k 0 = ltb-true _ _ (and_parts _ b comes).0 in
     let end : slot.state.now.slot ≤ deadline_of d k = omega (arith, job.release) in
     ap (λ (n : ℕ). get_or slot.totals.now n 0) job.deadline
     ∙ harvest_read_lem d slot.totals.now w.summed slot.state.now.slot (deadline_of d k) end good.in_day

@@ -10,12 +10,12 @@ use lib.Dec.{ltb}
 use lib.ListN.{get_or, set}
 use lib.Seq.{get_or-set_same, get_or-set_other}
 use borrow.Author.Tests.{le-leb, lt-leb, ltb-true, ltb-false}
+use Rattle.std.proofs.lemmas.Bool.{and_from}
 use Rattle.std.specs.Prelude.{Option, Some, None}
 use Rattle.sheet.specs.Sums.{harvest_at, harvest_of}
 use Rattle.sheet.specs.Table.{most_jobs, job_of, cost_of, Day}
 use Rattle.sheet.specs.WellFormed.{GoodDay}
 use Rattle.sheet.proofs.Exactly.{either}
-use Rattle.sheet.proofs.Words.{and_true}
 use Rattle.sheet.proofs.Lists.{filled_get}
 use Rattle.sheet.proofs.Sums.{total_same, total_bound, harvest_from}
 use Rattle.interval.specs.Demand.{within, demand_of, Overloaded}
@@ -265,7 +265,7 @@ module _ (d : Day) (good : GoodDay d) (even : EvenDay d) where
   unfolding work_left demand_of
   wanted_first end =
       sum_at_most (up_to d end) (λ k. within 0 end (job_of d.table k)) (left_of (state_at d 0)) (λ k. (job_of d.table k).wanted) d.table.count
-      (λ k h p l. (and_true _ _ (le-leb 0 (job_of d.table k).release (omega arith)) p, at_most_wanted d 0 k h))
+      (λ k h p l. (and_from _ _ (le-leb 0 (job_of d.table k).release (omega arith)) p, at_most_wanted d 0 k h))
 
   -- ---- no interval is overloaded
 

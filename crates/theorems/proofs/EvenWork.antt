@@ -8,10 +8,10 @@ use native.Mathlib.Decide.{dec_lt, dec_le}
 use native.Mathlib.Omega.{arith}
 use lib.Dec.{ltb, leb, eqb}
 use borrow.Author.Tests.{lt-ltb, le-leb, eq-eqb, ltb-true, ltb-false, leb-true, leb-false, eqb-true}
+use Rattle.std.proofs.lemmas.Bool.{and_from, and_parts}
 use Rattle.sheet.specs.Sums.{total, total_of, some, harvest_of}
 use Rattle.sheet.specs.Table.{job_of, cost_of, Day}
 use Rattle.sheet.proofs.Exactly.{either, never_both}
-use Rattle.sheet.proofs.Words.{and_left, and_right, and_true}
 use Rattle.sheet.proofs.Sums.{total_same, total_at_most, total_bound, term_at_most, some_where, not_some, harvest_grows}
 use Rattle.interval.specs.Demand.{within, demand_of}
 use Rattle.interval.specs.declared.Kind.TheVariants.{Time}
@@ -111,12 +111,12 @@ module _ (d : Day) (s : State) where
   ends_here end e =
       let w = some_where (ends_at end) d.table.count e in
       let k : ℕ = w.0 in
-      let here : deadline_of d k ≡ end = eqb-true _ _ (and_left (eqb (deadline_of d k) end) (ltb 0 (left_of s k)) w.2) in
+      let here : deadline_of d k ≡ end = eqb-true _ _ (and_parts (eqb (deadline_of d k) end) (ltb 0 (left_of s k)) w.2).0 in
       let all = ap (work_left d s) here in (
         k,
         record {
           is_job = w.1;
-          still_wants = ltb-true _ _ (and_right (eqb (deadline_of d k) end) (ltb 0 (left_of s k)) w.2);
+          still_wants = ltb-true _ _ (and_parts (eqb (deadline_of d k) end) (ltb 0 (left_of s k)) w.2).1;
           ends = omega arith;
           all_work = omega arith;
         },
@@ -128,7 +128,7 @@ module _ (d : Day) (s : State) where
       let most : deadline_of d k ≤ end = leb-true _ _ p in
       elim (dec_lt (deadline_of d k) end) [
         | yes i ↦ i
-        | no i ↦ absurd (never_both (and_true _ _ (eq-eqb (deadline_of d k) end (omega arith)) (lt-ltb 0 (left_of s k) l)) (not_some (ends_at end) d.table.count k e h))
+        | no i ↦ absurd (never_both (and_from _ _ (eq-eqb (deadline_of d k) end (omega arith)) (lt-ltb 0 (left_of s k) l)) (not_some (ends_at end) d.table.count k e h))
       ]
 
   -- there is no work, or a last job of it
@@ -180,7 +180,7 @@ module _ (d : Day) (s : State) (past_done : work_left d s s.slot ≡ 0) (at_most
         | no i ↦
             absurd
             (never_both
-            (and_true _ _ (and_true _ _ (le-leb (job_of d.table k).release s.slot (omega arith)) (lt-ltb s.slot (deadline_of d k) (ahead k h l))) (lt-ltb 0 (left_of s k) l))
+            (and_from _ _ (and_from _ _ (le-leb (job_of d.table k).release s.slot (omega arith)) (lt-ltb s.slot (deadline_of d k) (ahead k h l))) (lt-ltb 0 (left_of s k) l))
             e)
       ]
 
@@ -191,7 +191,7 @@ module _ (d : Day) (s : State) (past_done : work_left d s s.slot ≡ 0) (at_most
       sum_at_most (up_to d end) (λ k. within (s.slot + 1) end (job_of d.table k)) (left_of s) (λ k. (job_of d.table k).wanted) d.table.count
       (λ k h p l.
       let later = released_later k h l (none k h (leb-true _ _ p)) in
-      (and_true _ _ (le-leb (s.slot + 1) (job_of d.table k).release (omega arith)) p, at_most_wanted k h))
+      (and_from _ _ (le-leb (s.slot + 1) (job_of d.table k).release (omega arith)) p, at_most_wanted k h))
 
   -- and, at an energy of 1, as the work that slack energy counts
   pub all_coming : ((k : ℕ) → k < d.table.count → (job_of d.table k).energy ≡ 1) → (end : ℕ) → NoneReady d s end → work_left d s end ≤ coming d s end
@@ -202,14 +202,14 @@ module _ (d : Day) (s : State) (past_done : work_left d s s.slot ≡ 0) (at_most
       (λ k h p l.
       let most = at_most_wanted k h in
       let cost = ap (λ (e : ℕ). (job_of d.table k).wanted * e) (costs_one k h) in
-      (and_true _ _ (lt-ltb _ _ (released_later k h l (none k h (leb-true _ _ p)))) p, omega arith))
+      (and_from _ _ (lt-ltb _ _ (released_later k h l (none k h (leb-true _ _ p)))) p, omega arith))
 
   -- slack time counts all that is left
   pub all_pending : (end : ℕ) → work_left d s end ≤ pending d s end
   unfolding work_left pending
   all_pending end =
       sum_at_most (up_to d end) (λ k. ltb s.slot (deadline_of d k) && leb (deadline_of d k) end) (left_of s) (left_of s) d.table.count
-      (λ k h p l. (and_true _ _ (lt-ltb _ _ (ahead k h l)) p, omega arith))
+      (λ k h p l. (and_from _ _ (lt-ltb _ _ (ahead k h l)) p, omega arith))
 
   -- slack time above 0: the work up to every end ahead leaves a slot
   pub slack_left : zero_or_less (slack_time d s) ≡ false → (end : ℕ) → s.slot < end → s.slot + work_left d s end < end
@@ -222,7 +222,7 @@ module _ (d : Day) (s : State) (past_done : work_left d s s.slot ≡ 0) (at_most
       let ends = job.ends in
       let all = job.all_work in
       let counted = all_pending (deadline_of d k) in
-      let still : wants d s k ≡ true = and_true _ _ (lt-ltb _ _ (ahead k job.is_job job.still_wants)) (lt-ltb 0 (left_of s k) job.still_wants) in
+      let still : wants d s k ≡ true = and_from _ _ (lt-ltb _ _ (ahead k job.is_job job.still_wants)) (lt-ltb 0 (left_of s k) job.still_wants) in
       let slack : s.slot + pending d s (deadline_of d k) < deadline_of d k =
       leb-false _ _ (and_fails (wants d s k) _ still (not_some (lacks_slack d s) d.table.count k (no_slack_is d s ∙ e) job.is_job)) in
       omega arith)
@@ -243,7 +243,7 @@ module _ (d : Day) (s : State) (past_done : work_left d s s.slot ≡ 0) (at_most
       let counted = all_coming costs_one (deadline_of d k) (none (deadline_of d k) (omega arith)) in
       let after = ahead k job.is_job job.still_wants in
       let later = released_later k job.is_job job.still_wants (none end h k job.is_job ends) in
-      let comes : comes_before d s own k ≡ true = and_true _ _ (lt-ltb _ _ later) (lt-ltb (deadline_of d k) own (omega arith)) in
+      let comes : comes_before d s own k ≡ true = and_from _ _ (lt-ltb _ _ later) (lt-ltb (deadline_of d k) own (omega arith)) in
       let slack : coming d s (deadline_of d k) + 1 ≤ s.level + harvest_of d.harvest s.slot (deadline_of d k) =
       ltb-false _ _ (and_fails (comes_before d s own k) _ comes (not_some (needs_charge d s own 1) d.table.count k (saving_is d s own 1 ∙ e) job.is_job)) in
       let more = harvest_grows d.harvest s.slot (deadline_of d k) s.slot end (omega arith) (omega arith) ends in
@@ -254,7 +254,7 @@ pending_left : (d : Day) (s : State) (end : ℕ) → pending d s end ≤ work_le
 unfolding work_left pending
 pending_left d s end =
     sum_at_most (λ k. ltb s.slot (deadline_of d k) && leb (deadline_of d k) end) (up_to d end) (left_of s) (left_of s) d.table.count
-    (λ k h p l. (and_right (ltb s.slot (deadline_of d k)) (leb (deadline_of d k) end) p, omega arith))
+    (λ k h p l. ((and_parts (ltb s.slot (deadline_of d k)) (leb (deadline_of d k) end) p).1, omega arith))
 
 -- slack time 0 or less: the work up to some end ahead fills the time to it
 pub no_slack_left : (d : Day) (s : State) → zero_or_less (slack_time d s) ≡ true
@@ -262,7 +262,7 @@ pub no_slack_left : (d : Day) (s : State) → zero_or_less (slack_time d s) ≡ 
 no_slack_left d s e =
     let w = some_where (lacks_slack d s) d.table.count (no_slack_is d s ∙ e) in
     let k : ℕ = w.0 in
-    let still : wants d s k ≡ true = and_left (wants d s k) _ w.2 in
-    let filled : deadline_of d k ≤ s.slot + pending d s (deadline_of d k) = leb-true _ _ (and_right (wants d s k) _ w.2) in
+    let still : wants d s k ≡ true = (and_parts (wants d s k) _ w.2).0 in
+    let filled : deadline_of d k ≤ s.slot + pending d s (deadline_of d k) = leb-true _ _ (and_parts (wants d s k) _ w.2).1 in
     let counted = pending_left d s (deadline_of d k) in
-    (k, w.1, ltb-true _ _ (and_left (ltb s.slot (deadline_of d k)) (ltb 0 (left_of s k)) still), omega arith)
+    (k, w.1, ltb-true _ _ (and_parts (ltb s.slot (deadline_of d k)) (ltb 0 (left_of s k)) still).0, omega arith)

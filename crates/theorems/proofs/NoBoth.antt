@@ -9,12 +9,12 @@ use native.Mathlib.Nat.{min-le_left, mul-one}
 use native.Mathlib.Omega.{arith}
 use lib.Dec.{leb, eqb}
 use borrow.Author.Tests.{ltb-true, ltb-false, leb-true, ne_eqb}
+use Rattle.std.proofs.lemmas.Bool.{and_parts}
 use Rattle.sheet.specs.Sums.{total, total_of, harvest_at, harvest_of}
 use Rattle.sheet.specs.Table.{job_of, Day}
 use Rattle.sheet.specs.WellFormed.{GoodDay}
 use Rattle.sheet.proofs.Exactly.{either}
 use Rattle.sheet.proofs.Sums.{total_same, total_at_most, total_bound}
-use Rattle.sheet.proofs.Words.{and_left, and_right}
 use Rattle.interval.specs.Demand.{within, demand_of, supply_of}
 use Rattle.interval.specs.declared.Kind.{Kind}
 use Rattle.interval.specs.declared.Kind.TheVariants.{Time, Energy}
@@ -68,8 +68,8 @@ module _ (d : Day) (plan : List ℕ) (ok : AcceptablePlan d plan) where
       lies_inside : (i k : ℕ) → i < d.table.slots → k < d.table.count → within from to (job_of d.table k) ≡ true → byte_of plan i ≡ k → (from ≤ i) × (i < to)
       lies_inside i k l h inside e =
           let window = ok.inside_window i k l h e in
-          let starts = leb-true from (job_of d.table k).release (and_left _ (leb (job_of d.table k).deadline to) inside) in
-          let ends = leb-true (job_of d.table k).deadline to (and_right (leb from (job_of d.table k).release) _ inside) in
+          let starts = leb-true from (job_of d.table k).release (and_parts _ (leb (job_of d.table k).deadline to) inside).0 in
+          let ends = leb-true (job_of d.table k).deadline to (and_parts (leb from (job_of d.table k).release) _ inside).1 in
           omega arith
 
       -- so a job within gets all its slots inside

@@ -11,11 +11,11 @@ use lib.Dec.{ltb, leb, eqb}
 use lib.ListN.{length, get_or, get_or-eq_default}
 use lib.Seq.{get_or-set_same, get_or-set_other}
 use borrow.Author.Tests.{ltb-true, leb-true, lt-ltb, le-ltb, eq-eqb, ne_eqb}
+use Rattle.std.proofs.lemmas.Bool.{and_parts}
 use Rattle.sheet.specs.Sums.{total, harvest_at}
 use Rattle.sheet.specs.Table.{most_jobs, idle_byte, job_of, Day}
 use Rattle.sheet.specs.WellFormed.{GoodDay}
 use Rattle.sheet.proofs.Lists.{listed_length, listed_get, filled_get}
-use Rattle.sheet.proofs.Words.{and_left, and_right}
 use Rattle.choice.specs.Choosing.{left_of, deadline_of, ready}
 use Rattle.rules.specs.Rules.{Ruled, idle, busy, decided, spent, state_by, next_state}
 use Rattle.slot_run.specs.Run.{first_state, state_at, plan_byte, plan_of}
@@ -125,9 +125,9 @@ module _ (d : Day) (good : GoodDay d) where
       let s = state_at d n in
       let is_busy = busy_slot n k h l named in
       let is_ready = (chosen_is d s k (busy_is_chosen d s is_busy.0 k is_busy.1).0).passes in
-      let window = and_left _ (ltb 0 (left_of s k)) is_ready in
-      let starts = leb-true (job_of d.table k).release s.slot (and_left _ (ltb s.slot (deadline_of d k)) window) in
-      let ends = ltb-true s.slot (deadline_of d k) (and_right (leb (job_of d.table k).release s.slot) _ window) in
+      let window = (and_parts _ (ltb 0 (left_of s k)) is_ready).0 in
+      let starts = leb-true (job_of d.table k).release s.slot (and_parts _ (ltb s.slot (deadline_of d k)) window).0 in
+      let ends = ltb-true s.slot (deadline_of d k) (and_parts (leb (job_of d.table k).release s.slot) _ window).1 in
       let slot = state_slot d n in
       omega arith
 

@@ -1,8 +1,8 @@
 -- Each job of the table adds its part to the demand, or none.
-use Rattle.std.proofs.Common.{arith, ℕ, ◌≡◌, ◌+◌, ◌<◌}
+use Rattle.std.proofs.Common.{arith, ◌≡◌, ◌+◌, ◌<◌}
+use Rattle.std.proofs.lemmas.Bool.{cond-true, cond-false}
 use Rattle.std.proofs.lemmas.List.{get_or-take}
 use mathlib.Core.Path.{refl, sym, ap, ap₂, ◌∙◌}
-use mathlib.Core.Bool.{Bool, true, false, cond}
 use Rattle.sheet.specs.Sums.{total}
 use Rattle.sheet.specs.Table.{no_job}
 use Rattle.sheet.specs.declared.Job.{Job}
@@ -12,12 +12,6 @@ use Rattle.judge.proofs.Weighing.{part_of, part_read, demand_is}
 use borrow.Author.Rules.{rules}
 use Rattle.judge.proofs.demand_of.Goals as goal
 use Rattle.judge.proofs.demand_of.Goals.{then-is_within, else-is_within}
-
-counted : (counts : Bool) (share : ℕ) → counts ≡ true → share ≡ cond counts share 0
-counted counts share e = rw e
-
-passed_over : (counts : Bool) (share : ℕ) → counts ≡ false → 0 ≡ cond counts share 0
-passed_over counts share e = rw e
 
 pub loop-job-init : goal.loop-job-init
 loop-job-init c = (sym (total_none _), search rules)
@@ -34,12 +28,12 @@ loop-job-preserved c =
     elim c.if-is_within.branch [
       | then-is_within w ↦
           let share = w.share-demand.ensures.0 ∙ ap (λ (j : Job). share_of claim.kind j) same in
-          let part = part_read claim.kind table claim.from claim.to k _ _ _ asked share (counted _ _ w.if-is_within.true) in
+          let part = part_read claim.kind table claim.from claim.to k _ _ _ asked share (cond-true _ _ _ w.if-is_within.true) in
           let small = w.share-demand.ensures.1 in
           let is : c.if-is_within.demand ≡ c.loop-job.demand + w.share-demand.result = w.demand-is in
           (is ∙ ap₂ ◌+◌ c.loop-job.invariant.0 part ∙ sym more, omega arith)
       | else-is_within w ↦
-          let none = part_read claim.kind table claim.from claim.to k 0 _ _ asked refl (passed_over _ _ w.if-is_within.false) in
+          let none = part_read claim.kind table claim.from claim.to k 0 _ _ asked refl (cond-false _ _ _ w.if-is_within.false) in
           let is : c.if-is_within.demand ≡ c.loop-job.demand = w.demand-is in
           let same : c.loop-job.demand ≡ c.loop-job.demand + 0 = omega arith in
           (is ∙ same ∙ ap₂ ◌+◌ c.loop-job.invariant.0 none ∙ sym more, omega arith)

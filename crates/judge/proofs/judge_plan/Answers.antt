@@ -1,7 +1,7 @@
 -- The refusal of what was handed in, 11 by the plan's length, or what the slots say.
 use mathlib.Core.Path.{subst}
 use Rattle.sheet.proofs.Residual.{err_is}
-use Rattle.sheet.specs.Checked.{Checks, the_day}
+use Rattle.sheet.specs.Checked.{Checks}
 use Rattle.judge.proofs.Promised.{plan_refused, says_eleven, says_found}
 use Rattle.judge.proofs.judge_plan.Goals as goal
 

@@ -1,5 +1,4 @@
 -- The demand is the sum over the jobs; the supply follows the kind.
-use Rattle.std.proofs.Common.{arith}
 use mathlib.Core.Path.{refl}
 use Rattle.judge.proofs.Promised.{weighed_time, weighed_energy}
 use Rattle.judge.proofs.weigh.Goals as goal

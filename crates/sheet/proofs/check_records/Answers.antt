@@ -2,7 +2,6 @@
 use Rattle.std.proofs.Common.{arith, ◌<◌, ℕ, ◌≡◌, slice_index_or, take}
 use Rattle.std.proofs.lemmas.List.{get_or-take}
 use mathlib.Core.Path.{sym, ap, subst, ◌∙◌}
-use Rattle.sheet.specs.Paper.{gives, in_order}
 use Rattle.sheet.specs.Refusals.{record_says}
 use Rattle.sheet.specs.Table.{no_job, window_fault, work_fault}
 use Rattle.sheet.specs.declared.Job.{Job}

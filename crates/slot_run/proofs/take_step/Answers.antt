@@ -1,7 +1,7 @@
 -- The refusal of what was handed in, the day over, or the slot that is taken.
 use mathlib.Core.Path.{subst}
 use Rattle.sheet.proofs.Residual.{err_is}
-use Rattle.sheet.specs.Checked.{Checks, the_day}
+use Rattle.sheet.specs.Checked.{Checks}
 use Rattle.slot_run.proofs.Promised.{steps_refused, steps_over, steps_decided}
 use Rattle.slot_run.proofs.take_step.Goals as goal
 
