@@ -38,8 +38,8 @@ fn counted_if(counts: bool, amount: u32) -> u32
     if counts { amount } else { 0 }
 }
 
-// An accepted day as the search reads it: its table, the table's jobs by columns, and the running totals of
-// its harvest.
+// A day as the search reads it: its table, the table's jobs by columns, and the running totals of its
+// harvest; and what it needs to know of them.
 #[derive(Clone, Copy)]
 struct Accepted<'a> {
     table: &'a Table,

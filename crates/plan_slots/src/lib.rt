@@ -1,5 +1,5 @@
-// The pass over a plan's slots: 12 to 16, for a table and a harvest that were checked. It is the judge's,
-// and knows the sheet alone.
+// The pass over a plan's slots: 12 to 16, for a day that was checked. It is the judge's, and knows the sheet
+// alone.
 #![tactic(auto)]
 
 ghost use Rattle.std.specs.Prelude.{◌≡◌, ◌&&◌, ltb, leb, length, ◌<◌, ◌≤◌};
