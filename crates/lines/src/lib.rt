@@ -1,10 +1,10 @@
 // A line of docs/TRIALS.md in the space that is lent for it, and what the lines have in common.
 #![tactic(auto)]
 
-ghost use Rattle.std.specs.Prelude.{◌≤◌, length};
+ghost use Rattle.std.specs.Prelude.{◌≡◌, ◌≤◌, length};
 
 use sheet::{Job, Refusal, Table};
-use std::fmt;
+use std::{fmt, mem};
 
 // A line: the first `end` bytes of the space. Where the space is full, what stands there is printed and
 // the line goes on at its front.
@@ -16,7 +16,9 @@ pub struct Line<'a> {
 
 impl Line<'_> {
     // A line on which nothing stands yet.
-    pub fn new(space: &mut [u8]) -> Line<'_> {
+    pub fn new(space: &mut [u8]) -> Line<'_>
+        ensures { result.end ≡ 0 }
+    {
         Line { space, end: 0 }
     }
 
@@ -34,12 +36,13 @@ impl Line<'_> {
         }
     }
 
-    // Ends the line, and prints what stands there.
-    pub fn print(&mut self) {
+    // Ends the line, and prints what stands there. Then nothing does.
+    pub fn print(&mut self)
+        ensures { self.new.end ≡ 0 }
+    {
         self.push(b'\n');
-        let end = self.end;
+        let end = mem::replace(&mut self.end, 0);
         print::word(&self.space[..end]);
-        self.end = 0;
     }
 }
 
