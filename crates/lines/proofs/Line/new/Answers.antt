@@ -1,6 +1,6 @@
 -- Nothing stands on it.
-use mathlib.Core.Path.{refl}
+use Rattle.std.proofs.Common.{rules}
 use Rattle.lines.proofs.Line.new.Goals as goal
 
 pub returns : goal.returns
-returns c = refl
+returns c = search rules
