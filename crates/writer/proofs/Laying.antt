@@ -1,13 +1,12 @@
--- Laws of bytes laid at a place: none, one run behind another, a stretch written over, and a run laid at the front.
-use Prim.Native.Nat.{ℕ, suc, ◌+◌, ◌≤◌}
+-- Laws of bytes laid at a place: none, one run behind another, one byte more, and a run laid at the front.
+use Prim.Native.Nat.{ℕ, suc, ◌+◌, ◌≤◌, ◌<◌}
 use mathlib.Core.Path.{◌≡◌, refl, sym, ap, ◌∙◌}
 use mathlib.Core.List.{List, [], ◌∷◌, ◌++◌}
 use native.Mathlib.Nat.{zero-add}
+use native.Mathlib.Numerals.{add-one}
 use native.Mathlib.Omega.{arith}
-use lib.ListN.{length, set, take, drop}
-use lib.Seq.{sets, sets-eq, take-length}
-use borrow.Rule.Slice.PartMut.{put_mid}
-use Rattle.std.proofs.lemmas.Slice.{put_mid-paste}
+use lib.ListN.{length, get_or, set, take, drop}
+use lib.Seq.{sets, sets-eq, length-take-le, take-suc}
 use Rattle.writer.specs.Laid.{Laid}
 
 -- a run stored right behind another is the two stored as one
@@ -25,13 +24,12 @@ pub laid_next : {l m n xs ys : List ℕ} {i j : ℕ} → Laid l i xs m → Laid 
 laid_next {l} {m} {n} {xs} {ys} {i} {j} a b e =
     record { stored = b.stored ∙ ap (λ (k : List ℕ). sets k j ys) a.stored ∙ sets_append xs ys l i j e }
 
--- a stretch that is written over is the bytes laid at its place
-pub laid_stretch : {l m bytes xs : List ℕ} {at k : ℕ} → m ≡ put_mid at k l xs → xs ≡ bytes → k ≡ length bytes → at + length bytes ≤ length l → Laid l at bytes m
-laid_stretch {l} {bytes = bytes} {xs = xs} {at = at} {k = k} is holds e h =
-    record {
-      stored = is ∙ put_mid-paste at k l xs bytes (length bytes) holds (sym e) refl
-          ∙ ap (λ (s : List ℕ). take at l ++ s ++ drop (at + length bytes) l) (take-length bytes) ∙ sym (sets-eq bytes l at h);
-    }
+-- one byte more of a run that is copied byte by byte
+pub laid_byte : {l m : List ℕ} {at : ℕ} (bytes : List ℕ) (i : ℕ) → Laid l at (take i bytes) m → i < length bytes
+    → Laid l at (take (i + 1) bytes) (set m (at + i) (get_or bytes i 0))
+laid_byte {l} {m} {at} bytes i a h =
+    let place : at + i ≡ at + length (take i bytes) = ap (λ (k : ℕ). at + k) (sym (length-take-le i bytes (omega arith))) in
+    rw (add-one, take-suc bytes i 0) (laid_next a (record { stored = refl }) place)
 
 -- laid at the front of a buffer that has room, the bytes stand before the rest of it
 pub laid_front : {l m xs : List ℕ} (n : ℕ) → Laid l 0 xs m → length xs ≡ n → n ≤ length l → m ≡ xs ++ drop n l

@@ -79,6 +79,17 @@ fn put_records(out: &mut [u8], day: CheckedDay)
     }
 }
 
+// Puts the harvest, a byte for each slot, at a place that has room for it. One byte after the other:
+// `copy_from_slice` calls `memmove`, which a host that links this library need not have.
+fn put_harvest(out: &mut [u8], at: usize, harvest: &[u8])
+    requires { at + length harvest.now ≤ length out.old }
+    ensures { Laid out.old at harvest.now out.new }
+{
+    for (i, &byte) in harvest.iter().enumerate() {
+        out[at + i] = byte;
+    }
+}
+
 // Puts the trailer of a day, 12 bytes, at a place that has room for it: how far it is back to the
 // harvest and to the first job, the jobs, the slots, the capacity, and the mark.
 fn put_trailer(out: &mut [u8], at: usize, day: CheckedDay)
@@ -112,7 +123,7 @@ fn put_sheet(out: &mut [u8], day: CheckedDay)
     let harvest = sheet::RECORD_LENGTH * day.table.count;
     let trailer = harvest + day.harvest.len();
     put_records(out, day);
-    out[harvest..trailer].copy_from_slice(day.harvest);
+    put_harvest(out, harvest, day.harvest);
     put_trailer(out, trailer, day);
 }
 
