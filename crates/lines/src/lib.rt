@@ -1,7 +1,7 @@
 // A line of docs/TRIALS.md in the space that is lent for it, and what the lines have in common.
 #![tactic(auto)]
 
-ghost use Rattle.std.specs.Prelude.{◌≡◌, ◌≤◌, length};
+ghost use Rattle.std.specs.Prelude.{◌≡◌, ◌<◌, ◌≤◌, length};
 
 use sheet::{Job, Refusal, Table};
 use std::{fmt, mem};
@@ -36,6 +36,32 @@ impl Line<'_> {
         }
     }
 
+    // Bytes behind what stands there, one after the other.
+    #[cold]
+    #[inline(never)]
+    fn push_all(&mut self, bytes: &[u8]) {
+        for byte in bytes {
+            self.push(*byte);
+        }
+    }
+
+    // Bytes behind what stands there, at once; false, and no change, where they do not all have room.
+    fn put(&mut self, bytes: &[u8]) -> bool {
+        let Some(rest) = self.space.get_mut(self.end..) else {
+            return false;
+        };
+        let Some(room) = rest.get_mut(..bytes.len()) else {
+            return false;
+        };
+        match bytes {
+            // Quicker than a call.
+            [byte] => room[0] = *byte,
+            _ => room.copy_from_slice(bytes),
+        }
+        self.end += bytes.len();
+        true
+    }
+
     // Ends the line, and prints what stands there. Then nothing does.
     pub fn print(&mut self)
         ensures { self.new.end ≡ 0 }
@@ -48,11 +74,42 @@ impl Line<'_> {
 
 impl fmt::Write for Line<'_> {
     fn write_str(&mut self, text: &str) -> fmt::Result {
-        for byte in text.as_bytes() {
-            self.push(*byte);
+        let bytes = text.as_bytes();
+        if !self.put(bytes) {
+            self.push_all(bytes);
         }
         Ok(())
     }
+}
+
+// So many bytes of HEX are written at a time.
+const PART: usize = 32;
+
+// Their digits, two for each.
+const DIGITS: usize = 2 * PART;
+
+// The hexadecimal digit of a number's lowest four bits.
+fn digit(number: u8) -> u8
+    ensures { result < 128 }
+{
+    let low = number % 16;
+    if low < 10 {
+        b'0' + low
+    } else {
+        b'a' + (low - 10)
+    }
+}
+
+// Two digits for each of these bytes, in the space that is lent for them.
+fn digits<'a>(bytes: &[u8], space: &'a mut [u8; DIGITS]) -> &'a str
+    requires { length bytes.now ≤ PART }
+{
+    *space = [b'0'; DIGITS];
+    for k in 0..bytes.len() {
+        space[2 * k] = digit(bytes[k] / 16);
+        space[2 * k + 1] = digit(bytes[k]);
+    }
+    unsafe { str::from_utf8_unchecked(&space[..2 * bytes.len()]) }
 }
 
 // HEX.
@@ -64,8 +121,9 @@ impl fmt::Display for Hex<'_> {
         if self.0.is_empty() {
             return f.write_str("none");
         }
-        for byte in self.0 {
-            write!(f, "{byte:02x}")?;
+        let mut space = [0u8; DIGITS];
+        for part in self.0.chunks(PART) {
+            f.write_str(digits(part, &mut space))?;
         }
         Ok(())
     }
