@@ -1,7 +1,7 @@
 -- The stretch behind a sheet's own records is its harvest, and an empty one where the sheet is refused.
 use Prim.Native.Nat.{ℕ, ◌+◌, ◌*◌}
 use mathlib.Core.Path.{◌≡◌, sym, ap, ap₂, ◌∙◌, subst}
-use mathlib.Core.List.{List}
+use mathlib.Core.List.{List, []}
 use mathlib.Core.Logic.{⊎_elim}
 use native.Mathlib.Omega.{arith}
 use lib.ListN.{length}
@@ -21,7 +21,7 @@ use Rattle.sheet.specs.Checked.{Checks}
 use Rattle.sheet.proofs.Order.{Refuses, gives_or_refuses}
 use Rattle.sheet.proofs.Refusals.{refusal_refuses, says_gives}
 use Rattle.sheet.proofs.Stated.{sheet_leaves}
-use Rattle.reader.specs.Promise.{table_read, harvest_read, ReadsSheet, harvest_behind, HandsOn}
+use Rattle.reader.specs.Promise.{no_table, table_read, harvest_read, ReadsSheet, harvest_behind, HandsOn}
 use Rattle.reader.specs.declared.sheet_read.SheetRead.{SheetRead}
 use Rattle.reader.proofs.Yielding.{table_given, table_refused, harvest_given, harvest_refused}
 
@@ -36,9 +36,13 @@ given s e =
     ap (of_table s) (table_given s e)
     ∙ rw (le-leb _ _ good.good_day.few_jobs, le-leb (record_length * jobs_in s + slots_in s) (length s) (omega arith)) (sym (harvest_given s e))
 
-refused : (s : List ℕ) → Refuses (sheet_says s) → harvest_behind s (table_read s).count (table_read s).slots ≡ harvest_read s
+-- behind the records of the empty table there is nothing
+pub none_behind : (s : List ℕ) (t : Table) → t ≡ no_table → harvest_behind s t.count t.slots ≡ []
 unfolding of_table harvest_behind
-refused s r = ap (of_table s) (table_refused s r) ∙ rw (le-leb 0 (length s) (omega arith)) (sym (harvest_refused s r))
+none_behind s t is = ap (of_table s) is ∙ rw (le-leb 0 (length s) (omega arith))
+
+refused : (s : List ℕ) → Refuses (sheet_says s) → harvest_behind s (table_read s).count (table_read s).slots ≡ harvest_read s
+refused s r = none_behind s (table_read s) (table_refused s r) ∙ sym (harvest_refused s r)
 
 pub own_stretch : (s : List ℕ) → harvest_behind s (table_read s).count (table_read s).slots ≡ harvest_read s
 own_stretch s = ⊎_elim (given s) (refused s) (gives_or_refuses (sheet_says s))

@@ -4,7 +4,7 @@
 
 mod sheet_read;
 
-ghost use Rattle.std.specs.Prelude.{◌≡◌, ◌+◌, ◌*◌, ◌-◌, ◌≤◌, ◌<◌, length, replicate};
+ghost use Rattle.std.specs.Prelude.{◌≡◌, ◌+◌, ◌*◌, ◌-◌, ◌≤◌, ◌<◌, length, replicate, Ok};
 ghost use Rattle.sheet.specs.Table.{most_jobs};
 ghost use Rattle.sheet.specs.Sheet.{u16_at, job_in, jobs_in, slots_in, mark_fault, layout_fault, record_length, trailer_length};
 ghost use Rattle.reader.specs.Steps.{ReadsTrailer, Fills, ReadsInto};
@@ -128,12 +128,13 @@ fn no_table() -> Table
     }
 }
 
-// Fills a table that is empty yet with what a sheet holds, up to the record that is refused, if one is.
-fn fill(bytes: &[u8], table: &mut Table) -> Result<(), Refusal>
-    requires { table.old ≡ no_table }
+// Fills a table that is empty yet with what a sheet with this trailer holds, up to the record that is
+// refused, if one is.
+fn fill(bytes: &[u8], trailer: Trailer, table: &mut Table) -> Result<(), Refusal>
+    requires trailer_read { ReadsTrailer bytes.now (Ok trailer) }
+    requires empty_yet { table.old ≡ no_table }
     ensures { Fills bytes.now result table.new }
 {
-    let trailer = read_trailer(bytes)?;
     for k in 0..trailer.count {
         let job = job_in(bytes, k);
         sheet::check_record(trailer.slots, job, bytes[sheet::RECORD_LENGTH * k + 7], k)?;
@@ -145,16 +146,27 @@ fn fill(bytes: &[u8], table: &mut Table) -> Result<(), Refusal>
     Ok(())
 }
 
+// Reads the records of a sheet with this trailer into a table that is empty yet, and leaves it empty
+// where one is refused.
+fn read_records(bytes: &[u8], trailer: Trailer, table: &mut Table) -> Result<(), Refusal>
+    requires trailer_read { ReadsTrailer bytes.now (Ok trailer) }
+    requires empty_yet { table.old ≡ no_table }
+    ensures { ReadsInto bytes.now result table.new }
+{
+    let outcome = fill(bytes, trailer, table);
+    if outcome.is_err() {
+        *table = no_table();
+    }
+    outcome
+}
+
 // Reads a sheet into a table that is empty yet, and leaves it empty where the sheet is refused.
 fn read_into(bytes: &[u8], table: &mut Table) -> Result<(), Refusal>
     requires { table.old ≡ no_table }
     ensures { ReadsInto bytes.now result table.new }
 {
-    let outcome = fill(bytes, table);
-    if outcome.is_err() {
-        *table = no_table();
-    }
-    outcome
+    let trailer = read_trailer(bytes)?;
+    read_records(bytes, trailer, table)
 }
 
 // Reads a sheet, from any bytes at all: the table, or the refusal, 1 to 6. It keeps nothing of the

@@ -3,7 +3,7 @@ ghost use Rattle.std.specs.Prelude.{◌≡◌, Ok};
 ghost use Rattle.sheet.specs.Table.{day_of};
 ghost use Rattle.sheet.specs.WellFormed.{GoodDay};
 
-use super::{no_table, read_into, stretch};
+use super::{no_table, read_records, read_trailer, stretch};
 use sheet::{CheckedDay, Refusal, Table};
 
 // What `read` yields, and the harvest, which is that stretch of the sheet itself: an empty one where the
@@ -24,8 +24,18 @@ impl<'a> SheetRead<'a> {
     pub fn new(bytes: &'a [u8]) -> SheetRead<'a>
         ensures { ReadsSheet bytes.now result }
     {
+        let trailer = match read_trailer(bytes) {
+            Ok(trailer) => trailer,
+            Err(why) => {
+                return SheetRead {
+                    outcome: Err(why),
+                    table: no_table(),
+                    harvest: &bytes[..0],
+                };
+            }
+        };
         let mut table = no_table();
-        let outcome = read_into(bytes, &mut table);
+        let outcome = read_records(bytes, trailer, &mut table);
         let harvest = stretch(bytes, table.count, table.slots);
         SheetRead {
             outcome,
