@@ -46,17 +46,19 @@ fn earliest_job<F: Fn(usize) -> bool>(
 }
 
 impl Slot<'_> {
-    // Job k is ready: released, its deadline after the slot, slots still wanted.
+    // Job k is ready: released, its deadline after the slot, slots still wanted. What is left of it is read first, so
+    // that the compiled test begins there: as the day goes on, most jobs have all their slots.
     fn is_ready(&self, k: usize) -> bool
         requires { k < self.now.count }
         ensures { (d : Day) → IsOf d self.now → result ≡ ready d self.now.state.now k }
     {
+        let left = self.state.left[k];
         choice::passes_test(
             true,
             self.state.slot,
             self.jobs[k],
             self.jobs[columns::DEADLINE + k],
-            self.state.left[k],
+            left,
         )
     }
 
