@@ -1,5 +1,5 @@
 // The program's arguments: words, kinds and numbers.
-ghost use Rattle.std.specs.Prelude.{◌≡◌, min, ◌+◌, ◌*◌};
+ghost use Rattle.std.specs.Prelude.{◌≡◌, ◌≤◌, length, min, ◌+◌, ◌*◌};
 ghost use Rattle.evidence.specs.Decimal.{largest, number_in};
 
 use std::env::{Env, FillError};
@@ -24,7 +24,9 @@ pub fn count(rt: &impl Env) -> usize {
 }
 
 // The argument at a place, in the room that is lent for it; empty where there is none.
-pub fn read<'a>(rt: &impl Env, place: usize, room: &'a mut [u8]) -> &'a [u8] {
+pub fn read<'a>(rt: &impl Env, place: usize, room: &'a mut [u8]) -> &'a [u8]
+    ensures { length result.now ≤ length room.old }
+{
     match rt.arg(place, room) {
         Ok(length) => &room[..length],
         Err(_) => &room[..0],

@@ -1,5 +1,5 @@
 // The files that the arguments name.
-ghost use Rattle.std.specs.Prelude.{◌≤◌, length, IfOk};
+ghost use Rattle.std.specs.Prelude.{◌≤◌, length, IfOk, IfSome};
 
 use crate::argument;
 use std::env::Env;
@@ -65,7 +65,9 @@ fn read_named<'a>(
     rt: &impl Files,
     name: &[u8],
     room: &'a mut [u8; ROOM],
-) -> Result<&'a [u8], Unread> {
+) -> Result<&'a [u8], Unread>
+    ensures { IfOk result (λ content. length content.now ≤ length room.old) }
+{
     let mut file = File::open(rt, str::from_utf8(name)?)?;
     let count = read_on(&mut file, room)?;
     if LONGEST < count {
@@ -76,11 +78,9 @@ fn read_named<'a>(
 
 // The content of the file that the argument at a place names, in the room that is lent for it. Where there
 // is none a line says why.
-pub fn read<'a, R: Env + Files>(
-    rt: &R,
-    place: usize,
-    room: &'a mut [u8; ROOM],
-) -> Option<&'a [u8]> {
+pub fn read<'a, R: Env + Files>(rt: &R, place: usize, room: &'a mut [u8; ROOM]) -> Option<&'a [u8]>
+    ensures { IfSome result (λ content. length content.now ≤ length room.old) }
+{
     let mut longest = [0u8; argument::LONGEST];
     let name = argument::read(rt, place, &mut longest);
     match read_named(rt, name, room) {
