@@ -77,6 +77,10 @@ module _ (h : HandedIn) (o : Result (Unit {0}) Refusal) (said : outcome_says o �
   pub outcome_refused_exactly : (r : Refusal) → (o ≡ Err r) ↔ GivenFirst (States h) r
   outcome_refused_exactly r = Iff.trans (outcome_exactly o (Err r) _ said) (check_refuses h r)
 
+  -- past the check the day is well formed
+  pub checked_good : o ≡ Ok tt → GoodDay (day_in h)
+  checked_good e = sound_day h (outcome_accepted_exactly.0 e)
+
 -- ---- a call's own number, asked right after the check
 
 pub asked_exactly : {A : Type 0} (h : HandedIn) (n : ℕ) (b : Bool) (rest : Paper A) → sheet_has n ≡ false → (rest ≡ refuses n → ⊥)
