@@ -53,9 +53,24 @@ impl Line<'_> {
         let Some(room) = rest.get_mut(..bytes.len()) else {
             return false;
         };
+        // A word or a number of few bytes is put more quickly by itself than by a call that copies it.
         match bytes {
-            // Quicker than a call.
-            [byte] => room[0] = *byte,
+            [a] => room[0] = *a,
+            [a, b] => {
+                room[0] = *a;
+                room[1] = *b;
+            }
+            [a, b, c] => {
+                room[0] = *a;
+                room[1] = *b;
+                room[2] = *c;
+            }
+            [a, b, c, d] => {
+                room[0] = *a;
+                room[1] = *b;
+                room[2] = *c;
+                room[3] = *d;
+            }
             _ => room.copy_from_slice(bytes),
         }
         self.end += bytes.len();
